@@ -1,0 +1,27 @@
+-- Where a block stands in the bytes of a frame: what a step over the blocks answers.
+use Prim.Native.Nat.{ℕ, _+_, _-_}
+use mathlib.Core.List.{List}
+use lib.ListN.{length, take, drop}
+use Rattle.body.specs.Body.{Block, block, Step, stray, more, last, blockAt}
+use Rattle.body.specs.declared.BlockStep.{BlockStep}
+use Rattle.body.specs.declared.BlockStep.the-variants.{Stray, More, Last}
+
+-- the bytes from place i up to place j
+abbrev pub part : ℕ → ℕ → List ℕ → List ℕ
+part i j s = take (j - i) (drop i s)
+
+-- a block that starts at a place of s, by places: its data start two bytes on, the next block where the bytes behind it start
+unfoldable pub placed : List ℕ → ℕ → Step → BlockStep
+placed s at stray = Stray
+placed s at (more b l) = More (b .command) (at + 2) (at + 2 + length (b .text)) (b .right) (length s - length l)
+placed s at (last b) = Last (b .command) (at + 2) (at + 2 + length (b .text)) (b .right)
+
+-- what stands at a place of s
+unfoldable pub foundAt : List ℕ → ℕ → BlockStep
+foundAt s at = placed s at (blockAt (drop at s))
+
+-- the same without places: what was found, read back as a step
+unfoldable pub view : List ℕ → BlockStep → Step
+view s Stray = stray
+view s (More c i j r n) = more (block c (part i j s) r) (drop n s)
+view s (Last c i j r) = last (block c (part i j s) r)

@@ -1,0 +1,6 @@
+-- "What each command does".
+pub mod Reply
+pub mod Commands
+pub mod Configuration
+pub mod Special
+pub mod Blocks

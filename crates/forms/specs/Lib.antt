@@ -1,0 +1,6 @@
+-- "Three forms we write", and the calls that write them.
+pub mod Forms
+pub mod Output
+pub mod Writing
+pub mod Reforming
+pub mod Joining

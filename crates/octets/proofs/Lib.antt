@@ -1,0 +1,6 @@
+-- Laws of the definitions.
+pub mod Tests
+pub mod Lists
+pub mod Digits
+pub mod Places
+pub mod Buffers

@@ -1,0 +1,1 @@
+// What both layers say of bytes is in specs/.

@@ -1,0 +1,5 @@
+-- How a frame reads, and where its parts stand.
+pub mod Translation
+pub mod Lead
+pub mod Reading
+pub mod Places

@@ -1,0 +1,37 @@
+-- Making a fresh board.
+use Prim.Native.Nat.{ℕ}
+use mathlib.Core.Bool.{not}
+use mathlib.Core.List.{List}
+use lib.ListN.{length}
+use Rattle.octets.specs.Choice.{if_then_else_}
+use Rattle.octets.specs.Buffer.{zeros}
+use Rattle.header.specs.Addressing.{isOwnType}
+use Rattle.board.specs.Settings.{FORMAT-S, OFF, settings}
+use Rattle.board.specs.Soundness.{isMemory}
+use Rattle.board.specs.declared.Settings.{Settings}
+use Rattle.sign.specs.declared.Made.{Made}
+
+-- what the call answers, and memory after it
+pub record Making : Type 0 where
+  pub answer : Made
+  pub memory : List ℕ
+
+-- an answer beside memory
+abbrev pub making : Made → List ℕ → Making
+making r m = record { answer = r; memory = m }
+
+-- number, settings, memory
+abbrev pub makes : ℕ → Settings → List ℕ → Making
+makes n s m = making (record { number = n; settings = s }) m
+
+-- "memory untouched", "settings from 10 or 11 all zero"
+abbrev pub unmade : ℕ → List ℕ → Making
+unmade n m = makes n (settings 0 0 0 0 0 0 0 0 0 0) m
+
+-- "A fresh board has 00:00, 01 01 00, format S, speaker off, address 00, no files, memory all zero."
+-- "Fresh: 10, 11": 10 "wrong type", 11 "wrong memory length"
+unfoldable pub fresh : ℕ → List ℕ → Making
+fresh t m =
+    if not (isOwnType t) then unmade 10 m
+    else if not (isMemory (length m)) then unmade 11 m
+    else makes 0 (settings 0 0 1 1 0 FORMAT-S OFF 0 t 0) (zeros (length m))

@@ -1,0 +1,24 @@
+// Fresh boards and whole runs. The definitions are in specs/.
+use board::Settings;
+
+// Blocks done, blocks refused, the place (from 1) and number of the first refused, and the reply's length.
+pub struct Tally {
+    pub done: u8,
+    pub refused: u8,
+    pub place: u8,
+    pub first: u8,
+    pub length: usize,
+}
+
+// What a run answers.
+pub struct Answer {
+    pub number: u8,
+    pub tally: Tally,
+    pub settings: Settings,
+}
+
+// What the making of a fresh board answers.
+pub struct Made {
+    pub number: u8,
+    pub settings: Settings,
+}
