@@ -21,7 +21,7 @@ unfoldable pub foundAt : List ℕ → ℕ → BlockStep
 foundAt s at = placed s at (blockAt (drop at s))
 
 -- the same without places: what was found, read back as a step
-unfoldable pub view : List ℕ → BlockStep → Step
-view s Stray = stray
-view s (More c i j r n) = more (block c (part i j s) r) (drop n s)
-view s (Last c i j r) = last (block c (part i j s) r)
+unfoldable pub stepView : List ℕ → BlockStep → Step
+stepView s Stray = stray
+stepView s (More c i j r n) = more (block c (part i j s) r) (drop n s)
+stepView s (Last c i j r) = last (block c (part i j s) r)

@@ -62,7 +62,7 @@ unfoldable pub shown : List ℕ → Body → Reading
 shown h badBody = refused 7
 shown h (body bs) = frame h bs
 
-unfoldable pub view : List ℕ → List ℕ → Read → Reading
-view s room (Refused n) = refused n
-view s room (Standard i j) = shown (part i j s) (blocks BLOCKS (drop j s))
-view s room (Printable n i j) = shown (part i j (take n room)) (blocks BLOCKS (drop j (take n room)))
+unfoldable pub readView : List ℕ → List ℕ → Read → Reading
+readView s room (Refused n) = refused n
+readView s room (Standard i j) = shown (part i j s) (blocks BLOCKS (drop j s))
+readView s room (Printable n i j) = shown (part i j (take n room)) (blocks BLOCKS (drop j (take n room)))

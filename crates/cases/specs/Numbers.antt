@@ -1,0 +1,162 @@
+-- "The numbers that come back": for each, a call that answers it and a neighbour, one step away, that answers 0.
+use Prim.Native.Nat.{ℕ, zero, suc, _+_}
+use mathlib.Core.Bool.{Bool, true, _&&_}
+use mathlib.Core.List.{List, [], _∷_, _++_}
+use lib.ListN.{replicate}
+use Rattle.octets.specs.Choice.{_is_}
+use Rattle.octets.specs.Buffer.{zeros}
+use Rattle.board.specs.Settings.{settings}
+use Rattle.board.specs.declared.Settings.{Settings}
+use Rattle.forms.specs.Writing.{write}
+use Rattle.forms.specs.Reforming.{reform}
+use Rattle.forms.specs.Joining.{join}
+use Rattle.sign.specs.Run.{run}
+use Rattle.sign.specs.Fresh.{fresh}
+use Rattle.sheet.specs.Sheet.{bytes, start, inTurn}
+
+-- a call; buffers and fresh memory are given by their lengths and start as zeros
+pub data Call : Type 0 where
+  making : ℕ → ℕ → Call  -- own type, memory
+  frames : ℕ → List (List ℕ) → Call  -- memory of a fresh board of type "C", frames: the last one's number
+  blocks : ℕ → List (List ℕ) → Call  -- the same: the number of the last one's first refused block
+  running : Settings → List ℕ → ℕ → List ℕ → Call  -- settings, memory, reply buffer, frame
+  writing : ℕ → List ℕ → ℕ → List ℕ → ℕ → Call  -- form, header, command, data, output buffer
+  reforming : ℕ → List ℕ → ℕ → Call  -- form, frame, output buffer
+  joining : ℕ → List ℕ → List ℕ → ℕ → Call  -- form, first frame, second frame, output buffer
+
+-- the number that it answers
+unfoldable pub numberOf : Call → ℕ
+numberOf (making t n) = fresh t (zeros n) .answer .number
+numberOf (frames n fs) = inTurn (start n) fs .answer .number
+numberOf (blocks n fs) = inTurn (start n) fs .answer .tally .first
+numberOf (running s m o f) = run s m (zeros o) f .answer .number
+numberOf (writing k h c d o) = write k h c d (zeros o) .answer .number
+numberOf (reforming k f o) = reform k f (zeros o) .answer .number
+numberOf (joining k f g o) = join k f g (zeros o) .answer .number
+
+-- a number, a call that answers it, and one that answers 0
+pub record Row : Type 0 where
+  pub number : ℕ
+  pub bad : Call
+  pub good : Call
+
+abbrev pub row : ℕ → Call → Call → Row
+row n b g = record { number = n; bad = b; good = g }
+
+-- a row holds
+unfoldable pub holds : Row → Bool
+holds r = numberOf (r .bad) is r .number && numberOf (r .good) is 0
+
+-- every row of a table
+unfoldable pub allHold : List Row → Bool
+allHold [] = true
+allHold (r ∷ rs) = holds r && allHold rs
+
+-- settings with a time, and all else in range
+abbrev pub at : ℕ → ℕ → Settings
+at h n = settings h n 1 1 0 0x53 0 0 0x43 0
+
+-- a list again and again
+unfoldable pub times : ℕ → List ℕ → List ℕ
+times zero l = []
+times (suc n) l = l ++ times n l
+
+-- n blocks "E'S" in a printable frame
+abbrev pub many : ℕ → List ℕ
+many n = bytes "_01Z00" ++ (times n (bytes "_02E'S_03") ++ bytes "_04")
+
+-- a plain frame for a message of n spaces: 18 bytes and the message
+abbrev pub long : ℕ → List ℕ
+long n = bytes "\0\0\0\0\0\u{1}Z00\u{2}AA" ++ (replicate n 0x20 ++ bytes "\u{3}0000\u{4}")
+
+-- a printable frame for such a message: 8 translated bytes and the message
+abbrev pub wide : ℕ → List ℕ
+wide n = bytes "_01Z00_02AA" ++ (replicate n 0x20 ++ bytes "_04")
+
+-- such a frame, each space as an escape: 14 characters and three for each
+abbrev pub escaped : ℕ → List ℕ
+escaped n = bytes "_01Z00_02AA" ++ (times n (bytes "_20") ++ bytes "_04")
+
+abbrev pub E'S : List ℕ
+E'S = bytes "_01Z00_02E'S_04"
+
+unfoldable pub numbersTable : List Row
+numbersTable =
+    -- 1 "board not sound"
+    row 1 (running (at 24 0) (zeros 64) 128 E'S) (running (at 23 0) (zeros 64) 128 E'S)
+    ∷ row 1 (running (at 0 0) (zeros 63) 128 E'S) (running (at 0 0) (zeros 64) 128 E'S)
+    ∷ row 1 (running (at 0 0) (zeros 63 ++ (1 ∷ [])) 128 E'S) (running (at 0 0) (zeros 64) 128 E'S)
+    -- 2 "reply buffer shorter than memory plus 64"
+    ∷ row 2 (running (at 0 0) (zeros 64) 127 E'S) (running (at 0 0) (zeros 64) 128 E'S)
+    -- 3 "input empty, over 8,192 bytes standard or 24,576 printable, or over 8,192 translated"
+    ∷ row 3 (frames 64 ([] ∷ [])) (frames 64 (E'S ∷ []))
+    ∷ row 3 (frames 64 (long 8175 ∷ [])) (frames 64 (long 8174 ∷ []))
+    ∷ row 3 (frames 64 (escaped 8188 ∷ [])) (frames 64 (escaped 8184 ∷ []))
+    ∷ row 3 (frames 64 (wide 8185 ∷ [])) (frames 64 (wide 8184 ∷ []))
+    -- 4 "wrong first byte or lead"
+    ∷ row 4 (frames 64 (bytes "Z00\u{2}E'S\u{4}" ∷ [])) (frames 64 (E'S ∷ []))
+    ∷ row 4 (frames 64 (bytes "\0\0\0\0\u{1}Z00\u{2}E'S\u{4}" ∷ [])) (frames 64 (bytes "\0\0\0\0\0\u{1}Z00\u{2}E'S\u{4}" ∷ []))
+    ∷ row 4 (frames 64 ((times 5 (1 ∷ []) ++ bytes "Z00\u{2}E'S\u{4}") ∷ [])) (frames 64 ((times 6 (1 ∷ []) ++ bytes "Z00\u{2}E'S\u{4}") ∷ []))
+    ∷ row 4 (frames 64 (bytes "_00_00Z00_02E'S_04" ∷ [])) (frames 64 (bytes "_00_00_01Z00_02E'S_04" ∷ []))
+    -- 5 "printable: bad escape or byte outside 20H to 7EH"
+    ∷ row 5 (frames 64 (bytes "_01Z00_02E'_4d_04" ∷ [])) (frames 64 (bytes "_01Z00_02E'_4D_04" ∷ []))
+    ∷ row 5 (frames 64 (bytes "_01Z00_02AA\u{7f}_04" ∷ [])) (frames 64 (bytes "_01Z00_02AA~_04" ∷ []))
+    ∷ row 5 (frames 64 (bytes "_01Z00_02E'S_04_0" ∷ [])) (frames 64 (bytes "_01Z00_02E'S_04" ∷ []))
+    -- 6 "bad header, or "z""
+    ∷ row 6 (frames 64 (bytes "_01z00_02E'S_04" ∷ [])) (frames 64 (bytes "_01Z00_02E'S_04" ∷ []))
+    ∷ row 6 (frames 64 (bytes "_01s00,Z00_02E'S_04" ∷ [])) (frames 64 (bytes "_01r00,Z00_02E'S_04" ∷ []))
+    ∷ row 6 (frames 64 (bytes "_01Z0G,Z00_02E'S_04" ∷ [])) (frames 64 (bytes "_01Z0F,Z00_02E'S_04" ∷ []))
+    ∷ row 6 (frames 64 ((bytes "_01" ++ (times 16 (bytes "Z00,") ++ bytes "Z00_02E'S_04")) ∷ []))
+    (frames 64 ((bytes "_01" ++ (times 15 (bytes "Z00,") ++ bytes "Z00_02E'S_04")) ∷ []))
+    ∷ row 6 (frames 64 (bytes "_01Z00" ∷ [])) (frames 64 (E'S ∷ []))
+    -- 7 "bad body"
+    ∷ row 7 (frames 64 (many 65 ∷ [])) (frames 64 (many 64 ∷ []))
+    ∷ row 7 (frames 64 (bytes "_01Z00_02E'S_04 " ∷ [])) (frames 64 (E'S ∷ []))
+    ∷ row 7 (frames 64 (bytes "_01Z00_02_04" ∷ [])) (frames 64 (bytes "_01Z00_02E_04" ∷ []))
+    ∷ row 7 (frames 64 (bytes "_01Z00_02E'S_0300c4_04" ∷ [])) (frames 64 (bytes "_01Z00_02E'S_0300C4_04" ∷ []))
+    -- 8 "a read that is not last"
+    ∷ row 8 (frames 64 (bytes "_01Z00_02F!_03_02E'S_04" ∷ [])) (frames 64 (bytes "_01Z00_02E'S_03_02F!_04" ∷ []))
+    -- 9 "not addressed"
+    ∷ row 9 (frames 64 (bytes "_01Z01_02E'S_04" ∷ [])) (frames 64 (bytes "_01Z01,Z00_02E'S_04" ∷ []))
+    ∷ row 9 (frames 64 (bytes "_01000_02E'S_04" ∷ [])) (frames 64 (bytes "_01C00_02E'S_04" ∷ []))
+    -- 10, 11 "fresh board: wrong type; wrong memory length"
+    ∷ row 10 (making 0x7A 64) (making 0x75 64)
+    ∷ row 11 (making 0x43 63) (making 0x43 64)
+    ∷ row 11 (making 0x43 32769) (making 0x43 32768)
+    -- 12, 13 "join: header texts differ; first frame has a read"
+    ∷ row 12 (joining 1 E'S (bytes "_01Z01_02E'S_04") 24) (joining 1 E'S E'S 24)
+    ∷ row 13 (joining 1 (bytes "_01Z00_02F!_04") E'S 24) (joining 1 E'S (bytes "_01Z00_02F!_04") 24)
+    -- 14 "output buffer too short"
+    ∷ row 14 (joining 1 E'S E'S 18) (joining 1 E'S E'S 19)
+    ∷ row 14 (writing 3 (bytes "Z00") 0x45 (bytes "'S") 21) (writing 3 (bytes "Z00") 0x45 (bytes "'S") 22)
+    -- 15 "form not 1, 2 or 3"
+    ∷ row 15 (reforming 0 E'S 64) (reforming 1 E'S 64)
+    ∷ row 15 (reforming 4 E'S 64) (reforming 3 E'S 64)
+    -- 16 "command or data byte below 05H"
+    ∷ row 16 (writing 1 (bytes "Z00") 0x04 [] 64) (writing 1 (bytes "Z00") 0x05 [] 64)
+    ∷ row 16 (writing 1 (bytes "Z00") 0x41 (0x41 ∷ 0x04 ∷ []) 64) (writing 1 (bytes "Z00") 0x41 (0x41 ∷ 0x05 ∷ []) 64)
+    -- 17 "input has a wrong checksum"
+    ∷ row 17 (reforming 1 (bytes "_01Z00_02E'S_0300C5_04") 64) (reforming 1 (bytes "_01Z00_02E'S_0300C4_04") 64)
+    -- 18 "result over 8,192 translated bytes or 64 blocks"
+    ∷ row 18 (joining 1 (many 32) (many 33) 512) (joining 1 (many 32) (many 32) 512)
+    ∷ row 18 (writing 1 (bytes "Z00") 0x41 (replicate 8181 0x20) 9000) (writing 1 (bytes "Z00") 0x41 (replicate 8180 0x20) 9000)
+    -- 20 "block: wrong checksum"
+    ∷ row 20 (blocks 64 (bytes "_01Z00_02E'S_0300C5_04" ∷ [])) (blocks 64 (bytes "_01Z00_02E'S_0300C4_04" ∷ []))
+    -- 21 "unknown command byte or function label"
+    ∷ row 21 (blocks 64 (bytes "_01Z00_02D'S_04" ∷ [])) (blocks 64 (E'S ∷ []))
+    ∷ row 21 (blocks 64 (bytes "_01Z00_02F7_04" ∷ [])) (blocks 64 (bytes "_01Z00_02F;_04" ∷ []))
+    -- 22 "data missing, in excess, or malformed"
+    ∷ row 22 (blocks 64 (bytes "_01Z00_02E 2400_04" ∷ [])) (blocks 64 (bytes "_01Z00_02E 2359_04" ∷ []))
+    ∷ row 22 (blocks 64 (bytes "_01Z00_02E;130100_04" ∷ [])) (blocks 64 (bytes "_01Z00_02E;120100_04" ∷ []))
+    ∷ row 22 (blocks 64 (bytes "_01Z00_02E!F0_04" ∷ [])) (blocks 64 (bytes "_01Z00_02E!FF_04" ∷ []))
+    ∷ row 22 (blocks 64 (bytes "_01Z00_02F!0_04" ∷ [])) (blocks 64 (bytes "_01Z00_02F!_04" ∷ []))
+    -- 23 "no file of that label and type"
+    ∷ row 23 (blocks 64 (bytes "_01Z00_02E$AAU0005FF00_03_02GAHELLO_04" ∷ [])) (blocks 64 (bytes "_01Z00_02E$AAU0005FF00_03_02AAHELLO_04" ∷ []))
+    -- 24 "message longer than SIZE"
+    ∷ row 24 (blocks 64 (bytes "_01Z00_02E$AAU0005FF00_03_02AAHELLO!_04" ∷ [])) (blocks 64 (bytes "_01Z00_02E$AAU0005FF00_03_02AAHELLO_04" ∷ []))
+    -- 25, 26, 27 ""$": bad record, count or length; label twice; no room"
+    ∷ row 25 (blocks 64 (bytes "_01Z00_02E$0AU0005FF00_04" ∷ [])) (blocks 64 (bytes "_01Z00_02E$1AU0005FF00_04" ∷ []))
+    ∷ row 25 (blocks 64 (bytes "_01Z00_02E$SBL007E0000_04" ∷ [])) (blocks 512 (bytes "_01Z00_02E$SBL007D0000_04" ∷ []))
+    ∷ row 26 (blocks 64 (bytes "_01Z00_02E$AAU0005FF00ABU00050000_04" ∷ [])) (blocks 64 (bytes "_01Z00_02E$AAU0005FF00BBU00050000_04" ∷ []))
+    ∷ row 27 (blocks 64 (bytes "_01Z00_02E$AAU0036FF00_04" ∷ [])) (blocks 64 (bytes "_01Z00_02E$AAU0035FF00_04" ∷ []))
+    ∷ []
