@@ -5,7 +5,8 @@ use Prim.Native.Nat.{ℕ, _<_, _≤_}
 use native.Mathlib.Decide.{decLe}
 use native.Mathlib.Nat.{lt-of-not-le}
 use lib.Dec.{T}
-use Rattle.octets.specs.Choice.{if_then_else_}
+use borrow.Author.Tests.{eq-eqb, ne-eqb}
+use Rattle.octets.specs.Choice.{if_then_else_, equals}
 
 -- one order or the other
 pub compare {ℓ} : {X : Type ℓ} (a b : ℕ) → (a < b → X) → (b ≤ a → X) → X
@@ -46,7 +47,20 @@ and-right false b e = never (sym e)
 pub and-both : (a b : Bool) → a ≡ true → b ≡ true → a && b ≡ true
 and-both a b p q = rw (p, q)
 
+pub and-none : (a : Bool) {b : Bool} → b ≡ false → a && b ≡ false
+and-none true e = e
+and-none false e = refl
+
 -- a conjunction: the first part is written, the second found
 pub split : (a : Bool) {b : Bool} → (a && b) ≡ true → (a ≡ true) × (b ≡ true)
 split true e = (refl, e)
 split false e = never (sym e)
+
+-- the test of being b
+pub equals-yes : (x b : ℕ) → x ≡ b → equals b x ≡ true
+unfolding equals
+equals-yes x b e = eq-eqb x b e
+
+pub equals-no : (x b : ℕ) → (x ≡ b → ⊥) → equals b x ≡ false
+unfolding equals
+equals-no x b n = ne-eqb x b n
