@@ -149,9 +149,11 @@ join-reads k f g o a b z =
 
 -- a frame reads in one way
 module _ (s h h′ : List ℕ) (bs cs : List Block) (p : read s ≡ frame h bs) (q : read s ≡ frame h′ cs) where
+  -- with one header text
   pub same-header : h ≡ h′
   same-header = cc
 
+  -- and the same blocks
   pub same-blocks : bs ≡ cs
   same-blocks = cc
 
