@@ -1,10 +1,12 @@
--- Settings in range, test by test.
+-- Settings in range, test by test; and another value that is in range keeps them so.
+use Prim.Native.Nat.{ℕ}
 use mathlib.Core.Path.{_≡_}
 use mathlib.Core.Bool.{true, _||_}
 use Rattle.octets.specs.Choice.{_is_, _≤?_, between}
 use Rattle.octets.proofs.Tests.{split}
 use Rattle.header.specs.Addressing.{isOwnType}
 use Rattle.board.specs.Settings.{FORMAT-S, FORMAT-M, OFF, ON, inRange}
+use Rattle.board.specs.Settings.{withTime, withDate, withFormat, withSpeaker, withAddress, withFiles}
 use Rattle.board.specs.declared.Settings.{Settings}
 
 -- what each setting has to be
@@ -35,3 +37,36 @@ range s e =
 pub in-range : (s : Settings) → Range s → inRange s ≡ true
 unfolding inRange
 in-range s r = rw (r .hour, r .minute, r .month, r .day, r .year, r .format, r .speaker, r .own)
+
+-- ---- another value
+
+module _ (s : Settings) (e : inRange s ≡ true) where
+  -- another time
+  pub time-ranged : (h n : ℕ) → (h ≤? 23) ≡ true → (n ≤? 59) ≡ true → inRange (withTime s h n) ≡ true
+  unfolding inRange
+  time-ranged h n a b = let r = range s e in rw (a, b, r .month, r .day, r .year, r .format, r .speaker, r .own)
+
+  -- another date
+  pub date-ranged : (m d y : ℕ) → between 1 12 m ≡ true → between 1 31 d ≡ true → (y ≤? 99) ≡ true → inRange (withDate s m d y) ≡ true
+  unfolding inRange
+  date-ranged m d y a b c = let r = range s e in rw (r .hour, r .minute, a, b, c, r .format, r .speaker, r .own)
+
+  -- another time format
+  pub format-ranged : (f : ℕ) → (f is FORMAT-S || f is FORMAT-M) ≡ true → inRange (withFormat s f) ≡ true
+  unfolding inRange
+  format-ranged f a = let r = range s e in rw (r .hour, r .minute, r .month, r .day, r .year, a, r .speaker, r .own)
+
+  -- the speaker on or off
+  pub speaker-ranged : (v : ℕ) → (v is OFF || v is ON) ≡ true → inRange (withSpeaker s v) ≡ true
+  unfolding inRange
+  speaker-ranged v a = let r = range s e in rw (r .hour, r .minute, r .month, r .day, r .year, r .format, a, r .own)
+
+  -- any address
+  pub address-ranged : (a : ℕ) → inRange (withAddress s a) ≡ true
+  unfolding inRange
+  address-ranged a = e
+
+  -- any number of files
+  pub files-ranged : (k : ℕ) → inRange (withFiles s k) ≡ true
+  unfolding inRange
+  files-ranged k = e
