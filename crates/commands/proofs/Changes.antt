@@ -1,4 +1,5 @@
--- The special functions that set keep settings in range, and touch neither own type nor number of files; one alone sets the address.
+-- The special functions that set keep settings in range, and touch neither own type nor number of files;
+-- one alone sets the address.
 use Prim.Native.Nat.{ℕ, _+_, _≤_}
 use mathlib.Core.Path.{_≡_, refl, sym, _∙_}
 use mathlib.Core.List.{List}
@@ -71,7 +72,9 @@ module _ (x : Bool) (s : Settings) (d : List ℕ) where
   unfolding setFormat
   format-keeps =
       choice (KeptBy x s) (length d is 1 && (d ! 0 is FORMAT-S || d ! 0 is FORMAT-M))
-      (λ e. record { own = refl; files = refl; address = λ n. refl; ranged = λ g. format-ranged s g _ (split (length d is 1) e .1) })
+      (λ e.
+      let a = split (length d is 1) e .1 in
+      record { own = refl; files = refl; address = λ n. refl; ranged = λ g. format-ranged s g _ a })
       (λ e. tt)
 
   -- setting the speaker

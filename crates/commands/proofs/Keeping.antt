@@ -24,7 +24,8 @@ use Rattle.commands.specs.Commands.{Board, board, Effect, done, replied,
 use Rattle.commands.specs.Commands.{putMessage, writeFile, getContent, readFile}
 use Rattle.commands.specs.Configuration.{isRecords, recordsIn, labelsIn, needed, laid, configure}
 use Rattle.commands.specs.Special.{TIME, SPEAKER, FORMAT, DATE, ADDRESS, CONFIGURATION}
-use Rattle.commands.specs.Special.{setTime, setSpeaker, setFormat, setDate, setAddress, change, writeSpecial, isTold, readSpecial}
+use Rattle.commands.specs.Special.{setTime, setSpeaker, setFormat, setDate, setAddress, change}
+use Rattle.commands.specs.Special.{writeSpecial, isTold, readSpecial}
 use Rattle.commands.specs.Blocks.{command, runBlock}
 use Rattle.commands.specs.declared.Change.{Change}
 use Rattle.commands.specs.declared.Change.the-variants.{To, Malformed}
@@ -98,7 +99,8 @@ module _ (b : Board) (c : ℕ) where
   replies d r t f = stays d 0 r (λ n. absurd (n refl)) (λ n. never (sym t ∙ n)) f
 
   -- ---- A and G
-  puts : (label kind : ℕ) (msg : List ℕ) → writes c (label ∷ msg) ≡ true → Effects b c (label ∷ msg) (putMessage b (findOn b label kind) msg)
+  puts : (label kind : ℕ) (msg : List ℕ) → writes c (label ∷ msg) ≡ true →
+      Effects b c (label ∷ msg) (putMessage b (findOn b label kind) msg)
   unfolding putMessage
   puts label kind msg w = go (findOn b label kind) refl
     where

@@ -42,15 +42,18 @@ fileIn fs k = getD fs k (record { head = []; body = [] })
 put-count : (fs : List File) (l t : ℕ) (m : List ℕ) → length (putIn fs l t m) ≡ length fs
 unfolding putIn
 put-count [] l t m = refl
-put-count (f ∷ fs) l t m = choice (λ (x : List File). length x ≡ suc (length fs)) (isFile f l t) (λ e. refl) (λ e. ap suc (put-count fs l t m))
+put-count (f ∷ fs) l t m =
+    choice (λ (x : List File). length x ≡ suc (length fs)) (isFile f l t) (λ e. refl) (λ e. ap suc (put-count fs l t m))
 
 put-labels : (fs : List File) (l t : ℕ) (m : List ℕ) → labels (putIn fs l t m) ≡ labels fs
 unfolding putIn labels
 put-labels [] l t m = refl
-put-labels (f ∷ fs) l t m = choice (λ (x : List File). labels x ≡ f .head ! 0 ∷ labels fs) (isFile f l t) (λ e. refl) (λ e. rw (put-labels fs l t m))
+put-labels (f ∷ fs) l t m =
+    choice (λ (x : List File). labels x ≡ f .head ! 0 ∷ labels fs) (isFile f l t) (λ e. refl) (λ e. rw (put-labels fs l t m))
 
 -- a file of another label stays as it was
-pub put-others : (fs : List File) (l t : ℕ) (m : List ℕ) (k : ℕ) → (fileIn fs k .head ! 0 ≡ l → ⊥) → fileIn (putIn fs l t m) k ≡ fileIn fs k
+pub put-others : (fs : List File) (l t : ℕ) (m : List ℕ) (k : ℕ) → (fileIn fs k .head ! 0 ≡ l → ⊥) →
+    fileIn (putIn fs l t m) k ≡ fileIn fs k
 unfolding putIn
 put-others [] l t m k n = refl
 put-others (f ∷ fs) l t m zero n =
@@ -63,7 +66,8 @@ put-others (f ∷ fs) l t m (suc k) n =
 splice-mid : (p b y m : List ℕ) (k : ℕ) → length p ≡ k → length m ≡ length b → splice (p ++ (b ++ y)) k m ≡ p ++ (m ++ y)
 unfolding splice
 splice-mid p b y m k e g =
-    let d : drop (k + length m) (p ++ (b ++ y)) ≡ y = sym (drop-drop (length m) k _) ∙ rw (drop-at p (b ++ y) k e) (drop-at b y (length m) (sym g)) in
+    let d : drop (k + length m) (p ++ (b ++ y)) ≡ y =
+    sym (drop-drop (length m) k _) ∙ rw (drop-at p (b ++ y) k e) (drop-at b y (length m) (sym g)) in
     rw (take-at p (b ++ y) k e, d, append-assoc p m y)
 
 not-found : {start size : ℕ} → Nothing ≡ At start size → ⊥
@@ -97,7 +101,8 @@ module _ (l t : ℕ) (m : List ℕ) (size : ℕ) (g : length m ≡ size) where
       let len : length (pre ++ (f .head ++ f .body)) ≡ a = rw (length-append, length-append, e, v .0 .eleven) (omega arith) in
       simp append-assoc at (put-image fs y (pre ++ (f .head ++ f .body)) a start (v .1) len (rw q at h)))
 
-  put-valid : (fs : List File) (at start : ℕ) → AllValid fs → isContent m ≡ true → find l t fs at ≡ At start size → AllValid (putIn fs l t m)
+  put-valid : (fs : List File) (at start : ℕ) → AllValid fs → isContent m ≡ true → find l t fs at ≡ At start size →
+      AllValid (putIn fs l t m)
   unfolding find putIn
   put-valid [] at start v b h = tt
   put-valid (f ∷ fs) at start v b h =
@@ -173,8 +178,8 @@ find-room l t (suc n) r place start size e h =
     omega (arith, k .0, k .1, length-take (sizeOf r) (drop 11 r), length-drop 11 r, length-drop (11 + sizeOf r) r))
 
 -- a message leaves memory as long as it was, on any board
-pub holding-length : (l t n : ℕ) (m : List ℕ) (start size : ℕ) (msg : List ℕ) → find l t (filesOf n m) 0 ≡ At start size → length msg ≤ size →
-    length (holding m start size msg) ≡ length m
+pub holding-length : (l t n : ℕ) (m : List ℕ) (start size : ℕ) (msg : List ℕ) →
+    find l t (filesOf n m) 0 ≡ At start size → length msg ≤ size → length (holding m start size msg) ≡ length m
 unfolding holding splice
 holding-length l t n m start zero msg e h = simp (length-append, length-take, length-drop, length-zeros) (omega arith)
 holding-length l t n m start (suc size) msg e h =
@@ -184,7 +189,8 @@ holding-length l t n m start (suc size) msg e h =
 -- ---- the theorem
 
 -- a message leaves a sound memory sound
-pub holding-sound : (n : ℕ) (m : List ℕ) → soundMemory n m ≡ true → (l t start size : ℕ) → find l t (filesOf n m) 0 ≡ At start size →
+pub holding-sound : (n : ℕ) (m : List ℕ) → soundMemory n m ≡ true →
+    (l t start size : ℕ) → find l t (filesOf n m) 0 ≡ At start size →
     (msg : List ℕ) → length msg ≤ size → all isPlain msg ≡ true → soundMemory n (holding m start size msg) ≡ true
 holding-sound n m s l t start size e msg h p =
     let w = parts n m s in

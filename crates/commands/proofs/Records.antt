@@ -48,7 +48,8 @@ isSized zeroToo t v = if t is STRING then between 1 125 v else (zeroToo || 1 ≤
 
 -- the tests of a record, one by one
 record-parts : (z : Bool) (d : List ℕ) → isRecord z d ≡ true →
-    (isLabel (d ! 0) ≡ true) × (isKind (d ! 1) ≡ true) × (isProtection (d ! 2) ≡ true) × (isSized z (d ! 1) (sizeOf d) ≡ true) × (isCodes d ≡ true)
+    (isLabel (d ! 0) ≡ true) × (isKind (d ! 1) ≡ true) × (isProtection (d ! 2) ≡ true)
+    × (isSized z (d ! 1) (sizeOf d) ≡ true) × (isCodes d ≡ true)
 unfolding isRecord isSize
 record-parts z d r =
     let a = split (isLabel (d ! 0)) r in
@@ -139,14 +140,22 @@ gets n room d r h = by-test (sizeOf d is 0) all-of-it as-listed
         let l : length d ≡ 11 = eqb-true (length d) 11 (t .1) in
         let n₀ : n ≡ 0 = none-left n (drop 11 d) (rw (length-drop 11 d) (omega arith)) (r .2) in
         let k : 11 + 1 + needed n (drop 11 d) ≤ room = rw q at h in
-        record { fit = simp (q, t .0, le-leb 1 (room - 11) (omega arith)); inside = simp q (omega arith); more = simp (q, n₀) (omega arith) }
+        record {
+          fit = simp (q, t .0, le-leb 1 (room - 11) (omega arith));
+          inside = simp q (omega arith);
+          more = simp (q, n₀) (omega arith);
+        }
 
     as-listed : (sizeOf d is 0) ≡ false → Gets n room d
     as-listed q =
         let k : 11 + sizeOf d + needed n (drop 11 d) ≤ room = rw q at h in
         let ne : (sizeOf d ≡ 0 → ⊥) = eqb-false (sizeOf d) 0 q in
         let one : 1 ≤ sizeOf d = omega arith in
-        record { fit = simp q (sized-some (length d is 11) (d ! 1) (sizeOf d) one part); inside = simp q (omega arith); more = simp q (omega arith) }
+        record {
+          fit = simp q (sized-some (length d is 11) (d ! 1) (sizeOf d) one part);
+          inside = simp q (omega arith);
+          more = simp q (omega arith);
+        }
 
 -- ---- the files of n records in so much room, and the room that they leave
 
@@ -198,7 +207,8 @@ new-length zero room d r h = length-zeros room
 new-length (suc n) room d r h =
     let g = gets n room d r h in
     let v = sizeIn room d in
-    rw (length-append, length-append, stored-length d (r .0) v, length-zeros, new-length n (room - (11 + v)) (drop 11 d) (r .2) (g .more))
+    let i = new-length n (room - (11 + v)) (drop 11 d) (r .2) (g .more) in
+    rw (length-append, length-append, stored-length d (r .0) v, length-zeros, i)
     (omega (arith, g .inside))
 
 -- ---- the theorems, from what `configure` tests
@@ -240,4 +250,9 @@ module _ (d : List ℕ) (ok : isRecords FILES d ≡ true) (room : ℕ) (h : need
     pub laid-sound : distinct (labelsIn (recordsIn d) d) ≡ true → soundMemory (recordsIn d) (laid (recordsIn d) room d) ≡ true
     laid-sound f =
         whole n (laid n room d)
-        (record { long = rw laid-length l; few = le-leb n FILES (records-of FILES d ok .0); held = laid-holds; apart = ap distinct laid-labels ∙ f })
+        (record {
+          long = rw laid-length l;
+          few = le-leb n FILES (records-of FILES d ok .0);
+          held = laid-holds;
+          apart = ap distinct laid-labels ∙ f;
+        })
