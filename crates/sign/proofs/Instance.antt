@@ -1,0 +1,42 @@
+-- The premises of packing can be met: three frames that read as they ask, on every board and with every reply buffer.
+use Prim.Native.Nat.{ℕ}
+use mathlib.Core.Path.{refl}
+use mathlib.Core.Bool.{true}
+use mathlib.Core.List.{List, [], _∷_}
+use Rattle.octets.specs.Choice.{front, behind}
+use Rattle.octets.specs.Hex.{value, isHex2, hex2}
+use Rattle.octets.specs.Bytes.{isNul, isPlain}
+use Rattle.header.specs.Addressing.{isOwnType, fitOf}
+use Rattle.header.specs.Header.{isPair, isPairs, isHeader}
+use Rattle.body.specs.Body.{block, follow, afterEtx, afterData, blockAt, prepend, onward, blocks, isRead, readNotLast}
+use Rattle.reading.specs.Translation.{push, translateFrom, translate}
+use Rattle.reading.specs.Lead.{isSoh, nulLead, sohLead, leadOf}
+use Rattle.reading.specs.Reading.{notStx, readBody, readHeader, readLed, readTranslated, readPrintable, readStandard, read}
+use Rattle.board.specs.declared.Settings.{Settings}
+use Rattle.sign.specs.Packing.{setsNoAddress, Packed}
+use Rattle.sign.proofs.PackingLaws.{packing-unless-set}
+
+-- "_01Z00_02E'S_04": time format S
+abbrev pub formatS : List ℕ
+formatS = 0x5F ∷ 0x30 ∷ 0x31 ∷ 0x5A ∷ 0x30 ∷ 0x30 ∷ 0x5F ∷ 0x30 ∷ 0x32 ∷ 0x45 ∷ 0x27 ∷ 0x53 ∷ 0x5F ∷ 0x30 ∷ 0x34 ∷ []
+
+-- "_01Z00_02E'M_03_02F'_04": time format M, and what it is
+abbrev pub formatM : List ℕ
+formatM =
+    0x5F ∷ 0x30 ∷ 0x31 ∷ 0x5A ∷ 0x30 ∷ 0x30 ∷ 0x5F ∷ 0x30 ∷ 0x32 ∷ 0x45 ∷ 0x27 ∷ 0x4D ∷ 0x5F ∷ 0x30 ∷ 0x33
+    ∷ 0x5F ∷ 0x30 ∷ 0x32 ∷ 0x46 ∷ 0x27 ∷ 0x5F ∷ 0x30 ∷ 0x34 ∷ []
+
+-- "_01Z00_02E'S_03_02E'M_03_02F'_04": both
+abbrev pub joined : List ℕ
+joined =
+    0x5F ∷ 0x30 ∷ 0x31 ∷ 0x5A ∷ 0x30 ∷ 0x30 ∷ 0x5F ∷ 0x30 ∷ 0x32 ∷ 0x45 ∷ 0x27 ∷ 0x53 ∷ 0x5F ∷ 0x30 ∷ 0x33
+    ∷ 0x5F ∷ 0x30 ∷ 0x32 ∷ 0x45 ∷ 0x27 ∷ 0x4D ∷ 0x5F ∷ 0x30 ∷ 0x33 ∷ 0x5F ∷ 0x30 ∷ 0x32 ∷ 0x46 ∷ 0x27 ∷ 0x5F ∷ 0x30 ∷ 0x34 ∷ []
+
+-- the last does what the first and then the second do
+pub instance-packed : (s : Settings) (m o : List ℕ) → Packed s m o formatS formatM joined
+unfolding front behind value isHex2 hex2 push translateFrom translate isNul isSoh nulLead sohLead leadOf isOwnType fitOf
+    notStx isPair isPairs isHeader isPlain follow afterEtx afterData blockAt prepend onward blocks isRead readNotLast
+    readBody readHeader readLed readTranslated readPrintable readStandard read setsNoAddress
+instance-packed s m o =
+    packing-unless-set s m o formatS formatM joined (0x5A ∷ 0x30 ∷ 0x30 ∷ []) (block 0x45 (0x27 ∷ 0x53 ∷ []) true ∷ [])
+    (block 0x45 (0x27 ∷ 0x4D ∷ []) true ∷ block 0x46 (0x27 ∷ []) true ∷ []) refl refl refl refl

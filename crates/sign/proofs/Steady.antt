@@ -1,0 +1,160 @@
+-- What blocks and a whole run keep: own type, every length, a sound board sound; and a fresh board is sound.
+use Prim.Native.Nat.{ℕ, _+_, _≤_}
+use mathlib.Core.Path.{_≡_, refl, _∙_}
+use mathlib.Core.List.{List, [], _∷_}
+use mathlib.Core.Bool.{true, false, not, _&&_}
+use native.Mathlib.Omega.{arith}
+use lib.ListN.{length, length-append, length-drop}
+use borrow.Author.Tests.{ltb-false, not-false, not-true}
+use Rattle.octets.specs.Choice.{_is_, _<?_, _!_}
+use Rattle.octets.specs.Buffer.{zeros, overlay}
+use Rattle.octets.specs.Bytes.{E}
+use Rattle.octets.proofs.Tests.{choice, split}
+use Rattle.octets.proofs.Buffers.{length-zeros}
+use Rattle.header.specs.Addressing.{isOwnType, addressed}
+use Rattle.body.specs.Body.{Block, isRead}
+use Rattle.body.proofs.Plain.{Plain}
+use Rattle.reading.specs.Reading.{Reading, refused, frame, read}
+use Rattle.reading.proofs.FrameLaws.{read-plain}
+use Rattle.board.specs.Settings.{FORMAT-S, OFF, settings, inRange}
+use Rattle.board.specs.Files.{filesOf, labels, distinct}
+use Rattle.board.specs.Soundness.{holdsFiles, isMemory, sound}
+use Rattle.board.specs.declared.Settings.{Settings}
+use Rattle.board.proofs.Contents.{zeros-nul}
+use Rattle.board.proofs.SoundParts.{whole, sound-whole}
+use Rattle.commands.specs.Commands.{board}
+use Rattle.commands.specs.Special.{ADDRESS}
+use Rattle.commands.specs.Blocks.{runBlock}
+use Rattle.commands.proofs.Keeping.{Sound, setsAddress, block-effects}
+use Rattle.sign.specs.Run.{nothing, count, measure, State, state, onto, runBlocks, Outcome, untouched, runFrame, run}
+use Rattle.sign.specs.Fresh.{Making, fresh}
+use Rattle.sign.specs.Packing.{setsNoAddress}
+use Rattle.sign.specs.declared.Tally.{Tally}
+
+-- ---- blocks
+
+-- none of the blocks is a read
+abbrev pub NoReads : List Block → Type 0
+NoReads [] = Unit {0}
+NoReads (k ∷ ks) = (isRead (k .command) ≡ false) × NoReads ks
+
+-- what blocks keep, from a state to a state
+pub record Passed (ks : List Block) (st x : State) : Type 0 where
+  pub own : x .now .set .own ≡ st .now .set .own
+  pub memory : length (x .now .memory) ≡ length (st .now .memory)
+  pub buffer : length (st .now .memory) + 64 ≤ length (st .buffer) → length (x .buffer) ≡ length (st .buffer)
+  pub sound : Plain ks → Sound (st .now) → Sound (x .now)
+  pub address : setsNoAddress ks ≡ true → x .now .set .address ≡ st .now .set .address
+  pub quiet : NoReads ks → (x .buffer ≡ st .buffer) × (x .counts .length ≡ st .counts .length)
+
+overlay-length : (d s : List ℕ) → length s ≤ length d → length (overlay d s) ≡ length d
+unfolding overlay
+overlay-length d s h = rw (length-append, length-drop) (omega arith)
+
+-- a block without a reply
+overlay-none : (d s : List ℕ) → s ≡ [] → overlay d s ≡ d
+unfolding overlay
+overlay-none d s e = rw e
+
+length-none : (t : Tally) (n : ℕ) (s : List ℕ) → s ≡ [] → measure (count t n) (length s) .length ≡ t .length
+unfolding measure count
+length-none t n s e =
+    rw e
+    (choice (λ (u : Tally). u .length ≡ t .length) (n is 0) (λ e. refl)
+    (λ e. choice (λ (u : Tally). u .length ≡ t .length) (t .first is 0) (λ e. refl) (λ e. refl)))
+
+-- blocks, from any state
+pub run-passed : (ks : List Block) (st : State) → Passed ks st (runBlocks st ks)
+unfolding runBlocks onto setsNoAddress
+run-passed [] st =
+    record { own = refl; memory = refl; buffer = λ h. refl; sound = λ p s. s; address = λ n. refl; quiet = λ n. (refl, refl) }
+run-passed (k ∷ ks) st =
+    let x = runBlock (st .now) k in
+    let f = block-effects (st .now) k in
+    let i = run-passed ks (onto st x) in
+    record {
+      own = i .own ∙ f .own;
+      memory = i .memory ∙ f .long;
+      buffer = λ h.
+          let l = overlay-length (st .buffer) (x .reply) (omega (arith, f .fits)) in
+          i .buffer (omega (arith, f .long, l)) ∙ l;
+      sound = λ p s. i .sound (p .1) (f .sound (p .0 .following) s);
+      address = λ n.
+          let p = split (not (k .command is E && k .text ! 0 is ADDRESS)) n in
+          i .address (p .1) ∙ f .address (not-true (setsAddress (k .command) (k .text)) (p .0));
+      quiet = λ n.
+          let r = f .quiet (n .0) in
+          let q = i .quiet (n .1) in
+          (q .0 ∙ overlay-none (st .buffer) (x .reply) r, q .1 ∙ length-none (st .counts) (x .number) (x .reply) r);
+    }
+
+-- ---- a whole run
+
+-- no block that was read sets the address
+abbrev pub SetsNone : Reading → Type 0
+SetsNone (refused n) = Unit {0}
+SetsNone (frame h bs) = setsNoAddress bs ≡ true
+
+-- what a run keeps, by what was read
+pub record Steady (s : Settings) (m o : List ℕ) (r : Reading) (x : Outcome) : Type 0 where
+  pub own : x .answer .settings .own ≡ s .own
+  pub memory : length (x .memory) ≡ length m
+  pub reply : length (x .reply) ≡ length o
+  pub sound : sound s m ≡ true → Sound (board (x .answer .settings) (x .memory))
+  pub address : SetsNone r → x .answer .settings .address ≡ s .address
+  pub refused : (x .answer .number ≡ 0 → ⊥) → x ≡ untouched (x .answer .number) s m o
+
+untouched-steady : (s : Settings) (m o : List ℕ) (r : Reading) (n : ℕ) → Steady s m o r (untouched n s m o)
+untouched-steady s m o r n =
+    record { own = refl; memory = refl; reply = refl; sound = λ e. e; address = λ e. refl; refused = λ e. refl }
+
+frame-steady : (s : Settings) (m o f : List ℕ) → length m + 64 ≤ length o → (r : Reading) → read f ≡ r →
+    Steady s m o r (runFrame s m o r)
+unfolding runFrame
+frame-steady s m o f l (refused n) e = untouched-steady s m o (refused n) n
+frame-steady s m o f l (frame h bs) e =
+    let p = run-passed bs (state (board s m) o nothing) in
+    choice (Steady s m o (frame h bs)) (not (addressed (s .own) (s .address) h)) (λ a. untouched-steady s m o (frame h bs) 9)
+    (λ a.
+    record {
+      own = p .own;
+      memory = p .memory;
+      reply = p .buffer l;
+      sound = λ g. p .sound (read-plain f h bs e .blocks .plain) g;
+      address = p .address;
+      refused = λ n. absurd (n refl);
+    })
+
+-- any frame on any board, with any reply buffer
+pub run-steady : (s : Settings) (m o f : List ℕ) → Steady s m o (read f) (run s m o f)
+unfolding run
+run-steady s m o f =
+    choice (Steady s m o (read f)) (not (sound s m)) (λ e. untouched-steady s m o (read f) 1)
+    (λ e. choice (Steady s m o (read f)) (length o <? length m + 64) (λ g. untouched-steady s m o (read f) 2)
+    (λ g. frame-steady s m o f (ltb-false (length o) (length m + 64) g) (read f) refl))
+
+-- a run leaves a sound board sound
+pub run-sound : (s : Settings) (m o f : List ℕ) → sound s m ≡ true →
+    sound (run s m o f .answer .settings) (run s m o f .memory) ≡ true
+run-sound s m o f e = run-steady s m o f .sound e
+
+-- "1 to 9: board and buffers untouched, everything else returned is 0."
+pub run-untouched : (s : Settings) (m o f : List ℕ) → (run s m o f .answer .number ≡ 0 → ⊥) →
+    run s m o f ≡ untouched (run s m o f .answer .number) s m o
+run-untouched s m o f n = run-steady s m o f .refused n
+
+-- ---- a fresh board
+
+abbrev SoundIfMade : Making → Type 0
+SoundIfMade x = x .answer .number ≡ 0 → sound (x .answer .settings) (x .memory) ≡ true
+
+-- a fresh board that was made is sound
+pub fresh-sound : (t : ℕ) (m : List ℕ) → fresh t m .answer .number ≡ 0 →
+    sound (fresh t m .answer .settings) (fresh t m .memory) ≡ true
+unfolding fresh inRange holdsFiles labels filesOf distinct
+fresh-sound t m =
+    choice SoundIfMade (not (isOwnType t)) (λ e z. absurd (omega arith)) (λ e.
+    choice SoundIfMade (not (isMemory (length m))) (λ g z. absurd (omega arith)) (λ g z.
+    sound-whole (settings 0 0 1 1 0 FORMAT-S OFF 0 t 0) (zeros (length m)) (not-false (isOwnType t) e)
+    (whole 0 (zeros (length m))
+    (record { long = rw length-zeros (not-false (isMemory (length m)) g); few = refl; held = zeros-nul (length m); apart = refl }))))
