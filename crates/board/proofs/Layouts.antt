@@ -13,7 +13,7 @@ use Rattle.octets.specs.Bytes.{isNul}
 use Rattle.octets.proofs.Tests.{split}
 use Rattle.octets.proofs.Buffers.{eleven}
 use Rattle.board.specs.Files.{File, sizeOf, fileAt, filesOf, layout}
-use Rattle.board.specs.Soundness.{isSize, isStartCode, isStopCode, isCodes, isRecord, isContent, holdsFiles}
+use Rattle.board.specs.Soundness.{isSize, isStartCode, isStopCode, isCodes, isRecord, isContent, isFileAt, holdsFiles}
 
 -- a file as it has to be
 pub record Valid (f : File) : Type 0 where
@@ -86,7 +86,7 @@ parse (f ∷ fs) y v =
 
 -- memory with files laid out is as it has to be where the rest of it is 00H
 pub holds : (fs : List File) (y : List ℕ) → AllValid fs → holdsFiles (length fs) (layout fs y) ≡ all isNul y
-unfolding holdsFiles layout
+unfolding holdsFiles isFileAt layout
 holds [] y v = refl
 holds (f ∷ fs) y v =
     let w = v .0 in
@@ -125,13 +125,13 @@ print (suc n) r =
 module _ (n : ℕ) (r : List ℕ) (e : holdsFiles (suc n) r ≡ true) where
   first-parts : (11 ≤ length r) × (isRecord false r ≡ true) × (11 + sizeOf r ≤ length r)
       × (isContent (take (sizeOf r) (drop 11 r)) ≡ true) × (holdsFiles n (drop (11 + sizeOf r) r) ≡ true)
-  unfolding holdsFiles
+  unfolding holdsFiles isFileAt
   first-parts =
-      let a = split (11 ≤? length r) e in
+      let f = split (isFileAt r) e in
+      let a = split (11 ≤? length r) (f .0) in
       let b = split (isRecord false r) (a .1) in
       let c = split (11 + sizeOf r ≤? length r) (b .1) in
-      let d = split (isContent (take (sizeOf r) (drop 11 r))) (c .1) in
-      (leb-true 11 (length r) (a .0), b .0, leb-true (11 + sizeOf r) (length r) (c .0), d .0, d .1)
+      (leb-true 11 (length r) (a .0), b .0, leb-true (11 + sizeOf r) (length r) (c .0), c .1, f .1)
 
   -- memory behind the first file is as it has to be
   pub first-next : holdsFiles n (drop (11 + sizeOf r) r) ≡ true

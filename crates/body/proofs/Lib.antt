@@ -1,3 +1,7 @@
 -- Laws of the definitions.
 pub mod Plain
 pub mod Taken
+pub mod Sums
+pub mod StepLaws
+pub mod BlockLoops
+pub mod Verdicts

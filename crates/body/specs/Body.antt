@@ -81,3 +81,8 @@ isRead c = c is B || c is F || c is H || c is J || c is N
 unfoldable pub readNotLast : Bool → List Block → Bool
 readNotLast before [] = false
 readNotLast before (b ∷ bs) = before || readNotLast (isRead (b .command)) bs
+
+-- a block is a read
+unfoldable pub hasRead : List Block → Bool
+hasRead [] = false
+hasRead (b ∷ bs) = isRead (b .command) || hasRead bs

@@ -1,4 +1,5 @@
--- A frame's body: the blocks, their sums, and where they stand.
+-- A frame's body: the blocks, their sums, where they stand, and the reader that takes them.
 pub mod Sum
 pub mod Body
 pub mod Steps
+pub mod Readers

@@ -1,4 +1,8 @@
 // A frame's body: blocks and their sums. The definitions are in specs/.
+pub mod judging;
+pub mod reader;
+pub mod steps;
+pub mod sum;
 
 // What stands at a place of a frame: no block; a block with another one behind it; or the last block.
 // Its command byte, where its data start and end, whether its sum is right, and where the next block starts.

@@ -23,7 +23,7 @@ use Rattle.board.proofs.SoundParts.{parts, sound-parts, sound-whole}
 use Rattle.commands.specs.Commands.{Board, board, Effect, done, replied, refuse, findOn, holding}
 use Rattle.commands.specs.Commands.{putMessage, writeFile, getContent, readFile}
 use Rattle.commands.specs.Configuration.{isRecords, recordsIn, labelsIn, needed, laid, configure}
-use Rattle.commands.specs.Special.{TIME, SPEAKER, FORMAT, DATE, ADDRESS, CONFIGURATION}
+use Rattle.commands.specs.Special.{TIME, SPEAKER, FORMAT, DATE, ADDRESS, CONFIGURATION, setsAddress}
 use Rattle.commands.specs.Special.{setTime, setSpeaker, setFormat, setDate, setAddress, change}
 use Rattle.commands.specs.Special.{writeSpecial, isTold, readSpecial}
 use Rattle.commands.specs.Blocks.{command, runBlock}
@@ -45,10 +45,6 @@ Holds b = holdsFiles (b .set .files) (b .memory) ≡ true
 -- the file of a board at place k, counted from 0
 abbrev pub fileOf : Board → ℕ → File
 fileOf b k = fileIn (filesOf (b .set .files) (b .memory)) k
-
--- a command byte and data set the serial address
-abbrev pub setsAddress : ℕ → List ℕ → Bool
-setsAddress c d = c is E && d ! 0 is ADDRESS
 
 -- they replace all files
 abbrev pub configures : ℕ → List ℕ → Bool

@@ -13,21 +13,17 @@ use Rattle.octets.specs.Bytes.{isPlain}
 use Rattle.octets.proofs.Tests.{choice, by-test, split}
 use Rattle.octets.proofs.Buffers.{length-zeros}
 use Rattle.board.specs.declared.Found.the-variants.{At, Nothing}
-use Rattle.board.specs.Files.{File, sizeOf, fileAt, filesOf, layout, labels, distinct, find}
+use Rattle.board.specs.Files.{File, sizeOf, fileAt, filesOf, layout, labels, distinct, find, isAt}
 use Rattle.board.specs.Soundness.{isContent, holdsFiles, soundMemory}
 use Rattle.board.proofs.Layouts.{AllValid, past, parse, holds, count-files, print, valid, past-zero}
 use Rattle.board.proofs.Contents.{plain-content}
 use Rattle.board.proofs.SoundParts.{parts, whole}
 use Rattle.commands.specs.Commands.{holding}
 
--- a file has the label and the type
-abbrev pub isFile : File → ℕ → ℕ → Bool
-isFile f l t = f .head ! 0 is l && f .head ! 1 is t
-
 -- files, the first of the label and type with another content
 unfoldable pub putIn : List File → ℕ → ℕ → List ℕ → List File
 putIn [] l t m = []
-putIn (f ∷ fs) l t m = if isFile f l t then record { head = f .head; body = m } ∷ fs else f ∷ putIn fs l t m
+putIn (f ∷ fs) l t m = if isAt l t (f .head) then record { head = f .head; body = m } ∷ fs else f ∷ putIn fs l t m
 
 -- "holds the message, zeros after it"
 abbrev pub content : ℕ → List ℕ → List ℕ
@@ -43,24 +39,24 @@ put-count : (fs : List File) (l t : ℕ) (m : List ℕ) → length (putIn fs l t
 unfolding putIn
 put-count [] l t m = refl
 put-count (f ∷ fs) l t m =
-    choice (λ (x : List File). length x ≡ suc (length fs)) (isFile f l t) (λ e. refl) (λ e. ap suc (put-count fs l t m))
+    choice (λ (x : List File). length x ≡ suc (length fs)) (isAt l t (f .head)) (λ e. refl) (λ e. ap suc (put-count fs l t m))
 
 put-labels : (fs : List File) (l t : ℕ) (m : List ℕ) → labels (putIn fs l t m) ≡ labels fs
 unfolding putIn labels
 put-labels [] l t m = refl
 put-labels (f ∷ fs) l t m =
-    choice (λ (x : List File). labels x ≡ f .head ! 0 ∷ labels fs) (isFile f l t) (λ e. refl) (λ e. rw (put-labels fs l t m))
+    choice (λ (x : List File). labels x ≡ f .head ! 0 ∷ labels fs) (isAt l t (f .head)) (λ e. refl) (λ e. rw (put-labels fs l t m))
 
 -- a file of another label stays as it was
 pub put-others : (fs : List File) (l t : ℕ) (m : List ℕ) (k : ℕ) → (fileIn fs k .head ! 0 ≡ l → ⊥) →
     fileIn (putIn fs l t m) k ≡ fileIn fs k
-unfolding putIn
+unfolding putIn isAt
 put-others [] l t m k n = refl
 put-others (f ∷ fs) l t m zero n =
-    choice (λ (x : List File). fileIn x 0 ≡ f) (isFile f l t)
+    choice (λ (x : List File). fileIn x 0 ≡ f) (isAt l t (f .head))
     (λ e. absurd (n (eqb-true (f .head ! 0) l (split (f .head ! 0 is l) e .0)))) (λ e. refl)
 put-others (f ∷ fs) l t m (suc k) n =
-    choice (λ (x : List File). fileIn x (suc k) ≡ fileIn fs k) (isFile f l t) (λ e. refl) (λ e. put-others fs l t m k n)
+    choice (λ (x : List File). fileIn x (suc k) ≡ fileIn fs k) (isAt l t (f .head)) (λ e. refl) (λ e. put-others fs l t m k n)
 
 -- a message that is put in the middle
 splice-mid : (p b y m : List ℕ) (k : ℕ) → length p ≡ k → length m ≡ length b → splice (p ++ (b ++ y)) k m ≡ p ++ (m ++ y)
@@ -90,7 +86,7 @@ module _ (l t : ℕ) (m : List ℕ) (size : ℕ) (g : length m ≡ size) where
   put-image [] y pre at start v e h = absurd (not-found h)
   put-image (f ∷ fs) y pre at start v e h =
       let b = layout fs y in
-      choice (λ (x : List File). splice (pre ++ (f .head ++ (f .body ++ b))) start m ≡ pre ++ layout x y) (isFile f l t)
+      choice (λ (x : List File). splice (pre ++ (f .head ++ (f .body ++ b))) start m ≡ pre ++ layout x y) (isAt l t (f .head))
       (λ q.
       let k : At (at + 11) (length (f .body)) ≡ At start size = rw q at h in
       let len : length (pre ++ f .head) ≡ start = rw (length-append, e, v .0 .eleven) (found-start k) in
@@ -106,7 +102,7 @@ module _ (l t : ℕ) (m : List ℕ) (size : ℕ) (g : length m ≡ size) where
   unfolding find putIn
   put-valid [] at start v b h = tt
   put-valid (f ∷ fs) at start v b h =
-      choice AllValid (isFile f l t)
+      choice AllValid (isAt l t (f .head))
       (λ q. (
         record {
           eleven = v .0 .eleven;
@@ -169,7 +165,7 @@ find-room l t zero r place start size e h = absurd (not-found e)
 find-room l t (suc n) r place start size e h =
     let c = take (sizeOf r) (drop 11 r) in
     let d = drop (11 + sizeOf r) r in
-    by-test (isFile (fileAt r) l t)
+    by-test (isAt l t (fileAt r .head))
     (λ q.
     let k : At (place + 11) (length c) ≡ At start size = rw q at e in
     omega (arith, found-start k, found-size k, length-take (sizeOf r) (drop 11 r), length-drop 11 r))

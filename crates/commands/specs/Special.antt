@@ -74,6 +74,10 @@ setDate s d =
 unfoldable pub setAddress : Settings → List ℕ → Change
 setAddress s d = if length d is 2 && isCarried2 d then To (withAddress s (carried2 d)) else Malformed
 
+-- "a command to set the serial address", right or not
+abbrev pub setsAddress : ℕ → List ℕ → Bool
+setsAddress c d = c is E && d ! 0 is ADDRESS
+
 -- 22 "data missing, in excess, or malformed"
 unfoldable pub change : Board → Change → Effect
 change b (To s) = done (board s (b .memory))

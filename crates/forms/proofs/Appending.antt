@@ -7,11 +7,10 @@ use native.Mathlib.Omega.{arith}
 use lib.ListN.{length-append}
 use Rattle.octets.specs.Bytes.{isPlain}
 use Rattle.octets.proofs.Tests.{or-out-left, or-out-right}
-use Rattle.body.specs.Body.{Block, isRead, readNotLast}
+use Rattle.body.specs.Body.{Block, isRead, readNotLast, hasRead}
 use Rattle.body.proofs.Plain.{BlocksOf}
 use Rattle.body.proofs.Taken.{Blocks}
 use Rattle.forms.specs.Reforming.{allRight}
-use Rattle.forms.specs.Joining.{hasRead}
 
 of-append : (p : ℕ → Bool) (bs cs : List Block) → BlocksOf p bs → BlocksOf p cs → BlocksOf p (bs ++ cs)
 of-append p [] cs a b = b

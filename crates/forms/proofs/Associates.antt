@@ -8,11 +8,11 @@ use lib.ListN.{length, length-append}
 use Rattle.octets.specs.Choice.{isByte, all}
 use Rattle.octets.proofs.Tests.{or-out-right}
 use Rattle.octets.proofs.Lists.{same-self}
-use Rattle.body.specs.Body.{Block}
+use Rattle.body.specs.Body.{Block, hasRead}
 use Rattle.reading.specs.Reading.{frame, read}
 use Rattle.forms.specs.Output.{isOver}
 use Rattle.forms.specs.Reforming.{checked}
-use Rattle.forms.specs.Joining.{hasRead, putJoined, join}
+use Rattle.forms.specs.Joining.{putJoined, join}
 use Rattle.forms.proofs.Appending.{hasRead-append}
 use Rattle.forms.proofs.Limits.{over-first, over-second}
 use Rattle.forms.proofs.Succeeds.{checked-right, join-only-if, join-succeeds}

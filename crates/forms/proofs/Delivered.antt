@@ -11,7 +11,7 @@ use Rattle.octets.specs.Buffer.{overlay}
 use Rattle.octets.specs.Bytes.{isPlain}
 use Rattle.octets.proofs.Tests.{split}
 use Rattle.header.specs.Header.{isHeader}
-use Rattle.body.specs.Body.{Block, block, readNotLast}
+use Rattle.body.specs.Body.{Block, block, readNotLast, hasRead}
 use Rattle.body.proofs.Taken.{Blocks}
 use Rattle.reading.specs.Reading.{frame, read}
 use Rattle.reading.proofs.FrameLaws.{FrameOf, read-bytes}
@@ -19,7 +19,7 @@ use Rattle.forms.specs.Forms.{render}
 use Rattle.forms.specs.Output.{Output, isOver, delivered}
 use Rattle.forms.specs.Writing.{write}
 use Rattle.forms.specs.Reforming.{allRight, checked, reform}
-use Rattle.forms.specs.Joining.{hasRead, join}
+use Rattle.forms.specs.Joining.{join}
 use Rattle.forms.proofs.FormBytes.{render-bytes}
 use Rattle.forms.proofs.RoundTrip.{righted-right, round-trip}
 use Rattle.forms.proofs.Appending.{blocks-append, right-append, reads-append}

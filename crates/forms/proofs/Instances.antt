@@ -3,25 +3,18 @@ use mathlib.Core.Path.{_≡_, refl}
 use mathlib.Core.Bool.{true}
 use mathlib.Core.List.{List, [], _∷_}
 use Prim.Native.Nat.{ℕ}
-use Rattle.octets.specs.Choice.{front, behind, isByte, all, same}
-use Rattle.octets.specs.Hex.{digit, value, isHex2, hex2, isHex4, hex4, inHex4}
-use Rattle.octets.specs.Buffer.{zeros, overlay}
-use Rattle.octets.specs.Bytes.{isNul, isPlain}
-use Rattle.header.specs.Addressing.{isOwnType, fitOf}
-use Rattle.header.specs.Header.{isPair, isPairs, isHeader}
-use Rattle.body.specs.Sum.{sumFrom, summed, checksum}
-use Rattle.body.specs.Body.{Block, block, follow, afterEtx, afterData, blockAt, prepend, onward, blocks, isRead, readNotLast}
-use Rattle.reading.specs.Translation.{push, translateFrom, translate}
-use Rattle.reading.specs.Lead.{isSoh, nulLead, sohLead, leadOf}
-use Rattle.reading.specs.Reading.{frame, notStx, readBody, readHeader, readLed, readTranslated, readPrintable, readStandard, read}
+use Rattle.octets.specs.Choice.{isByte, all}
+use Rattle.octets.specs.Buffer.{zeros}
+use Rattle.body.specs.Body.{Block, block}
+use Rattle.reading.specs.Reading.{frame, read}
 use Rattle.reading.proofs.FrameLaws.{FrameOf, read-bytes}
-use Rattle.forms.specs.Forms.{plainRest, plainBody, summedBody, nuls, bodyIn, formOf, escape, render}
-use Rattle.forms.specs.Output.{isOver, put}
-use Rattle.forms.specs.Reforming.{allRight, checked, putRead, reform}
-use Rattle.forms.specs.Joining.{hasRead, putJoined, join}
+use Rattle.forms.specs.Forms.{render}
+use Rattle.forms.specs.Reforming.{reform}
+use Rattle.forms.specs.Joining.{join}
 use Rattle.forms.proofs.Succeeds.{Joinable, join-only-if}
 use Rattle.forms.proofs.Delivered.{resultOf, Reformed, reform-reads, Joined, join-reads}
 use Rattle.forms.proofs.Associates.{FromLeft}
+use Rattle.forms.proofs.Computing.{writes}
 
 -- "Z00"
 pub header : List ℕ
@@ -53,11 +46,7 @@ record Computed : Type 0 where
   joins-on : join 2 (resultOf (join 2 first second (zeros 40))) first (zeros 60) .answer .number ≡ 0
 
 computed : Computed
-unfolding first second header hello standard-time front behind isByte all same digit value isHex2 hex2 isHex4 hex4 inHex4
-    zeros overlay isNul isPlain isOwnType fitOf isPair isPairs isHeader sumFrom summed checksum
-    follow afterEtx afterData blockAt prepend onward blocks isRead readNotLast push translateFrom translate isSoh nulLead sohLead leadOf
-    notStx readBody readHeader readLed readTranslated readPrintable readStandard read
-    plainRest plainBody summedBody nuls bodyIn formOf escape render isOver put allRight checked putRead reform hasRead putJoined join
+unfolding first second header hello standard-time writes
 computed = record { first-bytes = refl; second-bytes = refl; second-reads = refl; reforms = refl; joins = refl; joins-on = refl }
 
 -- a frame of bytes

@@ -10,3 +10,4 @@ pub mod Delivered
 pub mod Again
 pub mod Associates
 pub mod Instances
+pub mod Computing

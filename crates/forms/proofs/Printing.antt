@@ -15,12 +15,13 @@ use Rattle.octets.proofs.Lists.{all-head, all-tail, all-cons}
 use Rattle.octets.proofs.Digits.{digit-small}
 use Rattle.reading.specs.Translation.{translated, push, translateFrom, translate}
 use Rattle.reading.proofs.Translating.{translate-escaped, translate-itself}
-use Rattle.forms.specs.Forms.{escape}
+use Rattle.forms.specs.Forms.{isItself, escape}
 
 -- ---- back
 
-one-byte : (x : ℕ) (l : List ℕ) → x < 256 → (t : Bool) → (between 0x20 0x7E x && x isn't ESCAPE) ≡ t
+one-byte : (x : ℕ) (l : List ℕ) → x < 256 → (t : Bool) → isItself x ≡ t
     → translateFrom 0 (if t then x ∷ l else ESCAPE ∷ digit (x / 16) ∷ digit (x % 16) ∷ l) ≡ push x (translateFrom 0 l)
+unfolding isItself
 one-byte x l h true e =
     let p = split (between 0x20 0x7E x) e in
     translate-itself x l (p .0) (not-true (x is ESCAPE) (p .1))
@@ -31,14 +32,14 @@ pub back-printable : (l : List ℕ) → all isByte l ≡ true → translate (esc
 unfolding translate escape push isByte
 back-printable [] h = unfold translateFrom in refl
 back-printable (x ∷ l) h =
-    one-byte x (escape l) (ltb-true x 256 (all-head isByte x l h)) (between 0x20 0x7E x && x isn't ESCAPE) refl
+    one-byte x (escape l) (ltb-true x 256 (all-head isByte x l h)) (isItself x) refl
     ∙ ap (push x) (back-printable l (all-tail isByte x l h))
 
 -- ---- what it looks like
 
 -- the escape of SOH
 pub escape-lead : (l : List ℕ) → escape (SOH ∷ l) ≡ ESCAPE ∷ 0x30 ∷ 0x31 ∷ escape l
-unfolding escape digit
+unfolding escape isItself digit
 escape-lead l = refl
 
 -- at most three bytes for one
@@ -46,7 +47,7 @@ pub escape-length : (l : List ℕ) → length (escape l) ≤ 3 * length l
 unfolding escape
 escape-length [] = lit≤ tt
 escape-length (x ∷ l) =
-    choice (λ (r : List ℕ). length r ≤ 3 * length (x ∷ l)) (between 0x20 0x7E x && x isn't ESCAPE)
+    choice (λ (r : List ℕ). length r ≤ 3 * length (x ∷ l)) (isItself x)
     (λ e. omega (arith, escape-length l)) (λ e. omega (arith, escape-length l))
 
 digit-byte : (n : ℕ) → n < 16 → isByte (digit n) ≡ true
@@ -60,7 +61,7 @@ escape-bytes [] a = a
 escape-bytes (x ∷ l) a =
     let h : x < 256 = unfold isByte in ltb-true x 256 (all-head isByte x l a) in
     let r : all isByte (escape l) ≡ true = escape-bytes l (all-tail isByte x l a) in
-    choice (λ t. all isByte t ≡ true) (between 0x20 0x7E x && x isn't ESCAPE)
+    choice (λ t. all isByte t ≡ true) (isItself x)
     (λ e. all-cons isByte x (escape l) (all-head isByte x l a) r)
     (λ e. all-cons isByte ESCAPE (digit (x / 16) ∷ digit (x % 16) ∷ escape l) (unfold isByte in refl)
     (all-cons isByte (digit (x / 16)) (digit (x % 16) ∷ escape l) (digit-byte (x / 16) (omega arith))

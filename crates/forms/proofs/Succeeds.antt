@@ -12,14 +12,14 @@ use Rattle.octets.specs.Bytes.{isPlain}
 use Rattle.octets.proofs.Tests.{choice}
 use Rattle.octets.proofs.Lists.{same-eq, same-self}
 use Rattle.header.specs.Header.{isHeader}
-use Rattle.body.specs.Body.{Block, block}
+use Rattle.body.specs.Body.{Block, block, hasRead}
 use Rattle.reading.specs.Reading.{Reading, refused, frame, read}
 use Rattle.reading.proofs.FrameLaws.{read-number}
 use Rattle.forms.specs.Forms.{render}
 use Rattle.forms.specs.Output.{Output, isForm, isOver, unwritten, delivered, put}
 use Rattle.forms.specs.Writing.{write}
 use Rattle.forms.specs.Reforming.{allRight, checked, putRead, reform}
-use Rattle.forms.specs.Joining.{hasRead, putJoined, join}
+use Rattle.forms.specs.Joining.{putJoined, join}
 use Rattle.forms.proofs.Limits.{render-length}
 
 -- ---- putting

@@ -1,6 +1,6 @@
 -- "Three forms we write."
 use Prim.Native.Nat.{ℕ, _/_, _%_}
-use mathlib.Core.Bool.{_&&_}
+use mathlib.Core.Bool.{Bool, _&&_}
 use mathlib.Core.List.{List, [], _∷_, _++_}
 use Rattle.octets.specs.Choice.{if_then_else_, _is_, _isn't_, between}
 use Rattle.octets.specs.Hex.{digit, inHex4}
@@ -40,13 +40,20 @@ bodyIn form bs = if form is 1 then plainBody bs else summedBody bs
 unfoldable pub formOf : ℕ → List ℕ → List Block → List ℕ
 formOf form h bs = nuls form ++ (SOH ∷ h ++ bodyIn form bs)
 
+-- all bytes but those "below 20H, above 7EH and 5FH" stand for themselves
+unfoldable pub isItself : ℕ → Bool
+isItself x = between 0x20 0x7E x && x isn't ESCAPE
+
+-- the others are written "as escapes"
+abbrev pub escapeOf : ℕ → List ℕ
+escapeOf x = ESCAPE ∷ digit (x / 16) ∷ digit (x % 16) ∷ []
+
 -- "bytes below 20H, above 7EH and 5FH as escapes"
 unfoldable pub escape : List ℕ → List ℕ
 escape [] = []
 escape (x ∷ t) =
     let r : List ℕ = escape t in
-    if between 0x20 0x7E x && x isn't ESCAPE then x ∷ r
-    else ESCAPE ∷ digit (x / 16) ∷ digit (x % 16) ∷ r
+    if isItself x then x ∷ r else escapeOf x ++ r
 
 -- the result: form 3 with "bytes below 20H, above 7EH and 5FH as escapes"
 unfoldable pub render : ℕ → List ℕ → List Block → List ℕ

@@ -1,17 +1,12 @@
 -- "Joining puts the second frame's blocks after the first's under the common header."
 use Prim.Native.Nat.{ℕ}
-use mathlib.Core.Bool.{Bool, false, not, _||_}
-use mathlib.Core.List.{List, [], _∷_, _++_}
+use mathlib.Core.Bool.{not}
+use mathlib.Core.List.{List, _++_}
 use Rattle.octets.specs.Choice.{if_then_else_, same}
-use Rattle.body.specs.Body.{Block, isRead}
+use Rattle.body.specs.Body.{hasRead}
 use Rattle.reading.specs.Reading.{Reading, refused, frame, read}
 use Rattle.forms.specs.Output.{Output, isForm, unwritten, put}
 use Rattle.forms.specs.Reforming.{checked}
-
--- a block is a read
-unfoldable pub hasRead : List Block → Bool
-hasRead [] = false
-hasRead (b ∷ bs) = isRead (b .command) || hasRead bs
 
 -- what was read of the one and of the other, in a form: 12 "header texts differ", 13 "first frame has a read"
 unfoldable pub putJoined : ℕ → Reading → Reading → List ℕ → Output

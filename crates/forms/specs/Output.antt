@@ -27,9 +27,13 @@ pub record Output : Type 0 where
 abbrev pub output : Written → List ℕ → Output
 output r o = record { answer = r; out = o }
 
+-- an answer's number and length
+abbrev pub writtenAs : ℕ → ℕ → Written
+writtenAs n k = record { number = n; length = k }
+
 -- number, length, output buffer
 abbrev pub answers : ℕ → ℕ → List ℕ → Output
-answers n k o = output (record { number = n; length = k }) o
+answers n k o = output (writtenAs n k) o
 
 -- "output untouched, length 0"
 abbrev pub unwritten : ℕ → List ℕ → Output

@@ -1,4 +1,4 @@
-// The three forms that we write. The definitions are in specs/.
+// The three forms that we write, and the calls that write them. The definitions are in specs/.
 
 // What writing, re-forming and joining answer.
 pub struct Written {

@@ -6,3 +6,4 @@ pub mod Digits
 pub mod Places
 pub mod Scans
 pub mod Buffers
+pub mod Ranges

@@ -1,5 +1,6 @@
 -- Where a frame's header and blocks stand: what a reading answers, and what it leaves in the room that it is lent.
 use Prim.Native.Nat.{ℕ, _+_, _-_}
+use mathlib.Core.Path.{_≡_}
 use mathlib.Core.Bool.{Bool}
 use mathlib.Core.List.{List, []}
 use lib.ListN.{length, take, drop}
@@ -32,9 +33,12 @@ unfoldable pub behindLead : Led → List ℕ
 behindLead misled = []
 behindLead (led l) = l
 
--- where the header starts among those bytes: behind the lead
+-- where the header starts among such bytes: behind the lead
+unfoldable pub headerIn : Bool → List ℕ → ℕ
+headerIn printable t = length t - length (behindLead (leadOf printable t))
+
 unfoldable pub headerPlace : List ℕ → ℕ
-headerPlace s = length (standsFor s) - length (behindLead (leadOf (isPrintable s) (standsFor s)))
+headerPlace s = headerIn (isPrintable s) (standsFor s)
 
 -- a refusal's number; or how many bytes there are (in the room, for a printable frame), where the header starts and where the first block does
 unfoldable pub placesOf : List ℕ → Reading → Read
@@ -56,6 +60,11 @@ unfoldable pub roomAfter : List ℕ → List ℕ → List ℕ
 roomAfter s room =
     if isPrintable s then (if PRINTABLE <? length s then room else fill room (translate s))
     else room
+
+-- what a reading of s with a room promises: its answer, and the room after it
+pub record Reads (s room : List ℕ) (answer : Read) (after : List ℕ) : Type 0 where
+  pub places : answer ≡ readPlaces s
+  pub left : after ≡ roomAfter s room
 
 -- the same without places: header text and blocks of the bytes in which they stand
 unfoldable pub shown : List ℕ → Body → Reading

@@ -3,15 +3,8 @@ use Prim.Native.Nat.{ℕ}
 use mathlib.Core.Path.{refl}
 use mathlib.Core.Bool.{true}
 use mathlib.Core.List.{List, [], _∷_}
-use Rattle.octets.specs.Choice.{front, behind}
-use Rattle.octets.specs.Hex.{value, isHex2, hex2}
-use Rattle.octets.specs.Bytes.{isNul, isPlain}
-use Rattle.header.specs.Addressing.{isOwnType, fitOf}
-use Rattle.header.specs.Header.{isPair, isPairs, isHeader}
-use Rattle.body.specs.Body.{block, follow, afterEtx, afterData, blockAt, prepend, onward, blocks, isRead, readNotLast}
-use Rattle.reading.specs.Translation.{push, translateFrom, translate}
-use Rattle.reading.specs.Lead.{isSoh, nulLead, sohLead, leadOf}
-use Rattle.reading.specs.Reading.{notStx, readBody, readHeader, readLed, readTranslated, readPrintable, readStandard, read}
+use Rattle.body.specs.Body.{block}
+use Rattle.reading.proofs.Computing.{reads}
 use Rattle.board.specs.declared.Settings.{Settings}
 use Rattle.sign.specs.Packing.{setsNoAddress, Packed}
 use Rattle.sign.proofs.PackingLaws.{packing-unless-set}
@@ -34,9 +27,7 @@ joined =
 
 -- the last does what the first and then the second do
 pub instance-packed : (s : Settings) (m o : List ℕ) → Packed s m o formatS formatM joined
-unfolding front behind value isHex2 hex2 push translateFrom translate isNul isSoh nulLead sohLead leadOf isOwnType fitOf
-    notStx isPair isPairs isHeader isPlain follow afterEtx afterData blockAt prepend onward blocks isRead readNotLast
-    readBody readHeader readLed readTranslated readPrintable readStandard read setsNoAddress
+unfolding reads setsNoAddress
 instance-packed s m o =
     packing-unless-set s m o formatS formatM joined (0x5A ∷ 0x30 ∷ 0x30 ∷ []) (block 0x45 (0x27 ∷ 0x53 ∷ []) true ∷ [])
     (block 0x45 (0x27 ∷ 0x4D ∷ []) true ∷ block 0x46 (0x27 ∷ []) true ∷ []) refl refl refl refl

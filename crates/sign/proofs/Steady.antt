@@ -23,9 +23,9 @@ use Rattle.board.specs.declared.Settings.{Settings}
 use Rattle.board.proofs.Contents.{zeros-nul}
 use Rattle.board.proofs.SoundParts.{whole, sound-whole}
 use Rattle.commands.specs.Commands.{board}
-use Rattle.commands.specs.Special.{ADDRESS}
 use Rattle.commands.specs.Blocks.{runBlock}
-use Rattle.commands.proofs.Keeping.{Sound, setsAddress, block-effects}
+use Rattle.commands.specs.Special.{setsAddress}
+use Rattle.commands.proofs.Keeping.{Sound, block-effects}
 use Rattle.sign.specs.Run.{nothing, count, measure, State, state, onto, runBlocks, Outcome, untouched, runFrame, run}
 use Rattle.sign.specs.Fresh.{Making, fresh}
 use Rattle.sign.specs.Packing.{setsNoAddress}
@@ -80,7 +80,7 @@ run-passed (k ∷ ks) st =
           i .buffer (omega (arith, f .long, l)) ∙ l;
       sound = λ p s. i .sound (p .1) (f .sound (p .0 .following) s);
       address = λ n.
-          let p = split (not (k .command is E && k .text ! 0 is ADDRESS)) n in
+          let p = split (not (setsAddress (k .command) (k .text))) n in
           i .address (p .1) ∙ f .address (not-true (setsAddress (k .command) (k .text)) (p .0));
       quiet = λ n.
           let r = f .quiet (n .0) in

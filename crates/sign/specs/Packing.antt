@@ -3,18 +3,17 @@ use Prim.Native.Nat.{ℕ, _+_}
 use mathlib.Core.Path.{_≡_}
 use mathlib.Core.Bool.{Bool, true, not, _&&_}
 use mathlib.Core.List.{List, [], _∷_}
-use Rattle.octets.specs.Choice.{if_then_else_, _is_, _!_}
-use Rattle.octets.specs.Bytes.{E}
+use Rattle.octets.specs.Choice.{if_then_else_, _is_}
 use Rattle.body.specs.Body.{Block}
 use Rattle.board.specs.declared.Settings.{Settings}
-use Rattle.commands.specs.Special.{ADDRESS}
+use Rattle.commands.specs.Special.{setsAddress}
 use Rattle.sign.specs.Run.{tally, Outcome, answers, run}
 use Rattle.sign.specs.declared.Tally.{Tally}
 
 -- "if the first frame holds no command to set the serial address"
 unfoldable pub setsNoAddress : List Block → Bool
 setsNoAddress [] = true
-setsNoAddress (k ∷ ks) = not (k .command is E && k .text ! 0 is ADDRESS) && setsNoAddress ks
+setsNoAddress (k ∷ ks) = not (setsAddress (k .command) (k .text)) && setsNoAddress ks
 
 -- a frame on the board and the reply buffer that a run left
 abbrev pub next : Outcome → List ℕ → Outcome

@@ -1,0 +1,44 @@
+use Rattle.body.proofs.StepLaws.{finding}
+use Rattle.body.proofs.steps.block_at.Statement.{statement}
+use Rattle.body.proofs.steps.block_at.Tie as tie
+
+byte-at-requires : tie.Need-byte-at-requires
+byte-at-requires c κs = search finding
+
+returns : tie.Need-returns
+returns c = search finding
+
+add-byte-at : tie.Need-add-byte-at
+add-byte-at c = search finding
+
+byte-at-requires-2 : tie.Need-byte-at-requires-2
+byte-at-requires-2 c κs = search finding
+
+returns-2 : tie.Need-returns-2
+returns-2 c = search finding
+
+add-plain-run : tie.Need-add-plain-run
+add-plain-run c = search finding
+
+plain-run-requires : tie.Need-plain-run-requires
+plain-run-requires c κs = search finding
+
+after-data-requires : tie.Need-after-data-requires
+after-data-requires c κs = search finding
+
+returns-3 : tie.Need-returns-3
+returns-3 c = search finding
+
+pub block-at-spec : {M : Type 1} → statement M
+block-at-spec =
+    tie.close
+    (tie.spec
+    byte-at-requires
+    returns
+    add-byte-at
+    byte-at-requires-2
+    returns-2
+    add-plain-run
+    plain-run-requires
+    after-data-requires
+    returns-3)

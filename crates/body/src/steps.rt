@@ -1,0 +1,118 @@
+// The block that stands at a place of a frame.
+use crate::BlockStep;
+use crate::sum::checksum;
+use octets::bytes::EOT;
+use octets::bytes::ETX;
+use octets::bytes::PLAIN;
+use octets::bytes::STX;
+use octets::hex::Four;
+use octets::hex::four_at;
+use octets::slices::byte_at;
+use octets::slices::plain_run;
+ghost use mathlib.Core.Path.{_≡_};
+ghost use mathlib.Core.Bool.{_||_};
+ghost use Prim.Native.Nat.{_+_, _≤_};
+ghost use lib.ListN.{length, drop};
+ghost use Rattle.octets.specs.Choice.{_is_, front};
+ghost use Rattle.octets.specs.Bytes.{STX, EOT, isPlain};
+ghost use Rattle.body.specs.Body.{block, isEnd, follow, afterEtx, afterData};
+ghost use Rattle.body.specs.Steps.{part, Inside, placed, foundAt};
+
+// "EOT as the very last byte"
+fn is_end(s: &[u8], at: usize) -> bool
+    ensures { λ r. ⌜ r ≡ isEnd (drop at (now (s .entry))) ⌝ }
+{
+    if byte_at(s, at) != EOT {
+        return false;
+    }
+    s.len() - at == 1
+}
+
+// "then STX or EOT": the block at a place, whose data end at `to`, with what stands behind it at `next`.
+fn follow(s: &[u8], at: usize, to: usize, command: u8, right: bool, next: usize) -> BlockStep
+    requires { ⌜ Inside (now s) at to ⌝ }
+    ensures { λ r. ⌜ r ≡ placed (now (s .entry)) at (follow (block command (part (at + 2) to (now (s .entry))) right) (drop next (now (s .entry)))) ⌝ }
+{
+    let from = at + 2;
+    if byte_at(s, next) == STX {
+        return BlockStep::More {
+            command,
+            from,
+            to,
+            right,
+            next,
+        };
+    }
+    if is_end(s, next) {
+        return BlockStep::Last {
+            command,
+            from,
+            to,
+            right,
+        };
+    }
+    BlockStep::Stray
+}
+
+// "STX or EOT means no checksum"
+fn no_sum(b: u8) -> bool
+    ensures { λ r. ⌜ r ≡ (b is STX || b is EOT) ⌝ }
+{
+    match b {
+        STX | EOT => true,
+        _ => false,
+    }
+}
+
+// "After ETX, STX or EOT means no checksum; otherwise four upper-case hex digits, then STX or EOT." The ETX stands at `to`.
+fn after_etx(s: &[u8], at: usize, to: usize, command: u8) -> BlockStep
+    requires { ⌜ Inside (now s) at (to + 1) ⌝ }
+    requires { ⌜ at + 2 ≤ to ⌝ }
+    ensures { λ r. ⌜ r ≡ placed (now (s .entry)) at (afterEtx command (part (at + 2) to (now (s .entry))) (drop (to + 1) (now (s .entry)))) ⌝ }
+{
+    if no_sum(byte_at(s, to + 1)) {
+        return follow(s, at, to, command, true, to + 1);
+    }
+    match four_at(s, to + 1) {
+        Four::Bad => BlockStep::Stray,
+        Four::Value(v) => {
+            let from = at + 2;
+            let sum = checksum(command, &s[from..to]);
+            follow(s, at, to, command, v == sum, to + 5)
+        }
+    }
+}
+
+// "ETX ends a block; only the last may end at EOT without it."
+fn after_data(s: &[u8], at: usize, to: usize, command: u8) -> BlockStep
+    requires { ⌜ Inside (now s) at to ⌝ }
+    ensures { λ r. ⌜ r ≡ placed (now (s .entry)) at (afterData command (part (at + 2) to (now (s .entry))) (drop to (now (s .entry)))) ⌝ }
+{
+    if byte_at(s, to) == ETX {
+        return after_etx(s, at, to, command);
+    }
+    if is_end(s, to) {
+        return BlockStep::Last {
+            command,
+            from: at + 2,
+            to,
+            right: true,
+        };
+    }
+    BlockStep::Stray
+}
+
+// "A block is STX, a command byte, data. Both are bytes 05H to FFH."
+pub fn block_at(s: &[u8], at: usize) -> BlockStep
+    ensures { λ r. ⌜ r ≡ foundAt (now (s .entry)) at ⌝ }
+{
+    if byte_at(s, at) != STX {
+        return BlockStep::Stray;
+    }
+    let command = byte_at(s, at + 1);
+    if command < PLAIN {
+        return BlockStep::Stray;
+    }
+    let to = plain_run(s, at + 2);
+    after_data(s, at, to, command)
+}
