@@ -1,4 +1,7 @@
 // A board: its settings and its memory. The definitions are in specs/.
+pub mod files;
+pub mod setting;
+pub mod soundness;
 
 // Time, date, time format, speaker, serial address, own type, number of files.
 pub struct Settings {

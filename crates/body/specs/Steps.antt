@@ -3,8 +3,9 @@ use Prim.Native.Nat.{ℕ, _+_, _-_, _≤_}
 use mathlib.Core.Bool.{Bool, true, false}
 use mathlib.Core.List.{List, []}
 use Rattle.octets.specs.Choice.{if_then_else_}
+use Rattle.octets.specs.Bytes.{BLOCKS}
 use lib.ListN.{length, take, drop}
-use Rattle.body.specs.Body.{Block, block, Step, stray, more, last, Body, badBody, body, blockAt, readNotLast}
+use Rattle.body.specs.Body.{Block, block, Step, stray, more, last, Body, badBody, body, blockAt, blocks, readNotLast}
 use Rattle.body.specs.declared.BlockStep.{BlockStep}
 use Rattle.body.specs.declared.BlockStep.the-variants.{Stray, More, Last}
 
@@ -42,6 +43,14 @@ blocksIn (body bs) = bs
 unfoldable pub isBody : Body → Bool
 isBody badBody = false
 isBody (body bs) = true
+
+-- a good body stands at a place of s
+unfoldable pub bodyAt : List ℕ → ℕ → Bool
+bodyAt s from = isBody (blocks BLOCKS (drop from s))
+
+-- its blocks
+unfoldable pub blocksAt : List ℕ → ℕ → List Block
+blocksAt s from = blocksIn (blocks BLOCKS (drop from s))
 
 -- 8 or 0
 unfoldable pub lastNumber : Bool → ℕ

@@ -18,15 +18,15 @@ use Rattle.board.specs.Soundness.{holdsFiles, isMemory, soundMemory}
 use Rattle.board.proofs.Layouts.{AllValid, parse, holds}
 use Rattle.board.proofs.Contents.{zeros-nul, zeros-content}
 use Rattle.board.proofs.SoundParts.{whole}
-use Rattle.commands.specs.Configuration.{isRecords, recordsIn, labelsIn, needed, sizeIn, stored, laid}
+use Rattle.commands.specs.Configuration.{isRecords, recordsIn, labelsIn, needed, neededBy, sizeIn, stored, laid}
 
 -- ---- n records, as they have to be
 
-abbrev Records : ℕ → List ℕ → Type 0
+abbrev pub Records : ℕ → List ℕ → Type 0
 Records zero d = length d ≡ 0
 Records (suc n) d = (11 ≤ length d) × (isRecord (length d is 11) d ≡ true) × Records n (drop 11 d)
 
-records-of : (n : ℕ) (d : List ℕ) → isRecords n d ≡ true → (recordsIn d ≤ n) × Records (recordsIn d) d
+pub records-of : (n : ℕ) (d : List ℕ) → isRecords n d ≡ true → (recordsIn d ≤ n) × Records (recordsIn d) d
 unfolding isRecords
 records-of zero [] e = (omega arith, refl)
 records-of zero (x ∷ l) e = never (sym e)
@@ -43,7 +43,7 @@ records-of (suc n) (x ∷ l) e =
 -- ---- the size of a record
 
 -- a size that a record of type t may have; the test says whether a TEXT's may be 0000
-abbrev isSized : Bool → ℕ → ℕ → Bool
+abbrev pub isSized : Bool → ℕ → ℕ → Bool
 isSized zeroToo t v = if t is STRING then between 1 125 v else (zeroToo || 1 ≤? v)
 
 -- the tests of a record, one by one
@@ -74,7 +74,7 @@ sized-none z t e = go (t is STRING) z e
 -- ---- the record that is stored
 
 module _ (d : List ℕ) (e : 11 ≤ length d) (v : ℕ) where
-  stored-length : length (stored v d) ≡ 11
+  pub stored-length : length (stored v d) ≡ 11
   unfolding stored inHex4
   stored-length = eleven (λ l. length (stored v l) ≡ 11) (λ a b c d e f g h i j k l. refl) d e
 
@@ -118,17 +118,17 @@ module _ (d : List ℕ) (e : 11 ≤ length d) (v : ℕ) where
 
 -- ---- the size that a record gets, and the room that it leaves
 
-record Gets (n room : ℕ) (d : List ℕ) : Type 0 where
-  fit : isSized false (d ! 1) (sizeIn room d) ≡ true
-  inside : 11 + sizeIn room d ≤ room
-  more : needed n (drop 11 d) ≤ room - (11 + sizeIn room d)
+pub record Gets (n room : ℕ) (d : List ℕ) : Type 0 where
+  pub fit : isSized false (d ! 1) (sizeIn room d) ≡ true
+  pub inside : 11 + sizeIn room d ≤ room
+  pub more : needed n (drop 11 d) ≤ room - (11 + sizeIn room d)
 
 none-left : (n : ℕ) (d : List ℕ) → length d ≡ 0 → Records n d → n ≡ 0
 none-left zero d e r = refl
 none-left (suc n) d e r = absurd (omega arith)
 
-gets : (n room : ℕ) (d : List ℕ) → Records (suc n) d → needed (suc n) d ≤ room → Gets n room d
-unfolding needed sizeIn
+pub gets : (n room : ℕ) (d : List ℕ) → Records (suc n) d → needed (suc n) d ≤ room → Gets n room d
+unfolding needed neededBy sizeIn
 gets n room d r h = by-test (sizeOf d is 0) all-of-it as-listed
   where
     part : isSized (length d is 11) (d ! 1) (sizeOf d) ≡ true

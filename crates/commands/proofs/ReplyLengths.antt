@@ -17,7 +17,7 @@ use Rattle.board.specs.Settings.{ON}
 use Rattle.board.specs.Files.{sizeOf, filesOf, heads}
 use Rattle.commands.specs.Reply.{replyOf}
 use Rattle.commands.specs.Commands.{Board}
-use Rattle.commands.specs.Special.{TIME, SPEAKER, FORMAT, DATE, CONFIGURATION, tellSpeaker, tellPool, tell}
+use Rattle.commands.specs.Special.{TIME, SPEAKER, FORMAT, DATE, CONFIGURATION, tellSpeaker, tellPool, tell, tellTime, tellDate}
 
 -- a reply is 33 bytes and its data
 pub reply-length : (code label : ℕ) (d : List ℕ) → length (replyOf code label d) ≡ 33 + length d
@@ -25,7 +25,7 @@ unfolding replyOf summed inHex4 zeros
 reply-length code label d = simp length-append (omega arith)
 
 -- the front of a list is no longer than the list
-front-length : (p : ℕ → Bool) (l : List ℕ) → length (front p l) ≤ length l
+pub front-length : (p : ℕ → Bool) (l : List ℕ) → length (front p l) ≤ length l
 front-length p l = omega (arith, ap length (take-front p l), length-take (length (front p l)) l)
 
 -- the records of memory are no longer than memory
@@ -37,7 +37,7 @@ heads-length (suc n) r =
     (omega (arith, heads-length n (drop (11 + sizeOf r) r), length-drop (11 + sizeOf r) r))
 
 tell-length : (b : Board) (label : ℕ) → length (tell b label) ≤ length (b .memory) + 31
-unfolding tell tellSpeaker tellPool inDecimal2 inHex4
+unfolding tell tellTime tellDate tellSpeaker tellPool inDecimal2 inHex4
 tell-length b label =
     choice P (label is TIME) (λ e. omega arith) (λ e.
     choice P (label is SPEAKER) (λ e. choice P (b .set .speaker is ON) (λ e. omega arith) (λ e. omega arith)) (λ e.

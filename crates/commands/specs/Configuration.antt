@@ -32,10 +32,14 @@ unfoldable pub labelsIn : ℕ → List ℕ → List ℕ
 labelsIn zero d = []
 labelsIn (suc n) d = d ! 0 ∷ labelsIn n (drop 11 d)
 
--- what n records take: "Sizes plus 11 for each"; SIZE 0000 "at least 1"
+-- what a record takes: "Sizes plus 11 for each"; SIZE 0000 "at least 1"
+unfoldable pub neededBy : List ℕ → ℕ
+neededBy d = 11 + (if listedSize d is 0 then 1 else listedSize d)
+
+-- what n records take
 unfoldable pub needed : ℕ → List ℕ → ℕ
 needed zero d = 0
-needed (suc n) d = 11 + (if listedSize d is 0 then 1 else listedSize d) + needed n (drop 11 d)
+needed (suc n) d = neededBy d + needed n (drop 11 d)
 
 -- the size that a record gets: 0000 "takes what remains after its own 11 bytes"
 unfoldable pub sizeIn : ℕ → List ℕ → ℕ

@@ -4,3 +4,4 @@ pub mod Commands
 pub mod Configuration
 pub mod Special
 pub mod Blocks
+pub mod Doing

@@ -103,6 +103,13 @@ tellSpeaker s = if s .speaker is ON then ZERO ∷ ZERO ∷ [] else F ∷ F ∷ [
 unfoldable pub tellPool : Board → List ℕ
 tellPool b = inHex4 (length (b .memory)) ++ (COMMA ∷ inHex4 (unused (b .set .files) (b .memory)))
 
+-- the time and the date, as they are set
+unfoldable pub tellTime : Settings → List ℕ
+tellTime s = inDecimal2 (s .hour) ++ inDecimal2 (s .minute)
+
+unfoldable pub tellDate : Settings → List ℕ
+tellDate s = inDecimal2 (s .month) ++ (inDecimal2 (s .day) ++ inDecimal2 (s .year))
+
 -- "F: labels 20H, "!", "'", ";", "$" and "#""
 unfoldable pub isTold : ℕ → Bool
 isTold label = label is TIME || label is SPEAKER || label is FORMAT || label is DATE || label is CONFIGURATION || label is POOL
@@ -110,10 +117,10 @@ isTold label = label is TIME || label is SPEAKER || label is FORMAT || label is 
 -- "Replies use the layouts above"
 unfoldable pub tell : Board → ℕ → List ℕ
 tell b label =
-    if label is TIME then inDecimal2 (b .set .hour) ++ inDecimal2 (b .set .minute)
+    if label is TIME then tellTime (b .set)
     else if label is SPEAKER then tellSpeaker (b .set)
     else if label is FORMAT then b .set .format ∷ []
-    else if label is DATE then inDecimal2 (b .set .month) ++ (inDecimal2 (b .set .day) ++ inDecimal2 (b .set .year))
+    else if label is DATE then tellDate (b .set)
     else if label is CONFIGURATION then heads (filesOf (b .set .files) (b .memory))
     else tellPool b
 

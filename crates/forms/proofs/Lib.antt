@@ -11,3 +11,12 @@ pub mod Again
 pub mod Associates
 pub mod Instances
 pub mod Computing
+pub mod PieceLaws
+pub mod Puttings
+pub mod Answers
+pub mod BlockWalks
+pub mod Results
+pub mod WriteLaws
+pub mod ReformLaws
+pub mod JoinLaws
+pub mod Unique

@@ -4,3 +4,4 @@ pub mod Output
 pub mod Writing
 pub mod Reforming
 pub mod Joining
+pub mod Pieces

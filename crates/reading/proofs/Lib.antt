@@ -1,4 +1,10 @@
 -- Laws of the definitions.
 pub mod FrameLaws
 pub mod Translating
+pub mod Leads
+pub mod Chars
+pub mod Parting
+pub mod Rooms
+pub mod Viewing
+pub mod Unique
 pub mod Computing

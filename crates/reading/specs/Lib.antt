@@ -3,3 +3,4 @@ pub mod Translation
 pub mod Lead
 pub mod Reading
 pub mod Places
+pub mod Walking

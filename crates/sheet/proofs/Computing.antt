@@ -4,8 +4,8 @@ use Rattle.board.specs.Files.{sizeOf, filesOf, layout, heads, used, unused, lab
 use Rattle.board.specs.Soundness.{isLabel, isKind, isProtection, isSize, isStartCode, isStopCode, isCodes, isRecord, isContent, isFileAt, holdsFiles, soundMemory, sound}
 use Rattle.commands.specs.Reply.{replyOf}
 use Rattle.commands.specs.Commands.{holding, putMessage, writeFile, getContent, readFile}
-use Rattle.commands.specs.Configuration.{isRecords, labelsIn, needed, sizeIn, stored, laid, configure}
-use Rattle.commands.specs.Special.{setTime, setSpeaker, setFormat, setDate, setAddress, change, writeSpecial, tellSpeaker, tellPool, isTold, tell, readSpecial}
+use Rattle.commands.specs.Configuration.{isRecords, labelsIn, neededBy, needed, sizeIn, stored, laid, configure}
+use Rattle.commands.specs.Special.{setTime, setSpeaker, setFormat, setDate, setAddress, change, writeSpecial, tellTime, tellDate, tellSpeaker, tellPool, isTold, tell, readSpecial}
 use Rattle.commands.specs.Blocks.{command, runBlock}
 use Rattle.sign.specs.Run.{count, measure, onto, runBlocks, runFrame, run}
 use Rattle.sign.specs.Fresh.{fresh}
@@ -21,8 +21,8 @@ unfolding
     isLabel isKind isProtection isSize isStartCode isStopCode isCodes isRecord isContent isFileAt holdsFiles soundMemory sound
     replyOf
     holding putMessage writeFile getContent readFile
-    isRecords labelsIn needed sizeIn stored laid configure
-    setTime setSpeaker setFormat setDate setAddress change writeSpecial tellSpeaker tellPool isTold tell readSpecial
+    isRecords labelsIn neededBy needed sizeIn stored laid configure
+    setTime setSpeaker setFormat setDate setAddress change writeSpecial tellTime tellDate tellSpeaker tellPool isTold tell readSpecial
     command runBlock
     count measure onto runBlocks runFrame run
     fresh

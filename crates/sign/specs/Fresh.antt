@@ -20,9 +20,13 @@ pub record Making : Type 0 where
 abbrev pub making : Made → List ℕ → Making
 making r m = record { answer = r; memory = m }
 
+-- an answer's number and settings
+abbrev pub madeAs : ℕ → Settings → Made
+madeAs n s = record { number = n; settings = s }
+
 -- number, settings, memory
 abbrev pub makes : ℕ → Settings → List ℕ → Making
-makes n s m = making (record { number = n; settings = s }) m
+makes n s m = making (madeAs n s) m
 
 -- "memory untouched", "settings from 10 or 11 all zero"
 abbrev pub unmade : ℕ → List ℕ → Making

@@ -2,3 +2,4 @@
 pub mod Run
 pub mod Fresh
 pub mod Packing
+pub mod Running

@@ -1,6 +1,10 @@
 // Fresh boards and whole runs. The definitions are in specs/.
 use board::Settings;
 
+pub mod fresh;
+pub mod numbers;
+pub mod run;
+
 // Blocks done, blocks refused, the place (from 1) and number of the first refused, and the reply's length.
 pub struct Tally {
     pub done: u8,

@@ -1,0 +1,100 @@
+// Memory "holds 0 to 64 files in order without gaps: an 11-byte record in ASCII, then SIZE bytes of content".
+use crate::Found;
+use octets::hex::hex_value;
+use octets::slices::byte_at;
+ghost use mathlib.Core.Path.{_≡_};
+ghost use mathlib.Core.Bool.{true};
+ghost use Prim.Native.Nat.{_+_, _≤_};
+ghost use lib.ListN.{length, drop};
+ghost use Rattle.octets.specs.Choice.{_!_};
+ghost use Rattle.octets.specs.Hex.{value};
+ghost use Rattle.board.specs.Files.{sizeOf, filesOf, used, isAt, find};
+ghost use Rattle.board.specs.Soundness.{holdsFiles};
+
+// "T: "A" TEXT, "B" STRING."
+pub const TEXT: u8 = 0x41;
+
+pub const STRING: u8 = 0x42;
+
+// "0 to 64 files"
+pub const FILES: u8 = 64;
+
+// "an 11-byte record"
+pub const RECORD: usize = 11;
+
+// where SIZE and QQQQ stand in a record
+pub const SIZE: usize = 3;
+
+pub const CODES: usize = 7;
+
+// "four upper-case hex digits"
+const BASE: usize = 16;
+
+// The value of the hex digit at a place.
+fn digit_at(m: &[u8], at: usize) -> usize
+    ensures { λ r. ⌜ r ≡ value (now (m .entry) ! at) ⌝ }
+    ensures { λ r. ⌜ r ≤ 16 ⌝ }
+{
+    hex_value(byte_at(m, at)) as usize
+}
+
+// The SIZE of the record at a place.
+pub fn size_at(m: &[u8], at: usize) -> usize
+    requires { ⌜ at ≤ length (now m) ⌝ }
+    ensures { λ r. ⌜ r ≡ sizeOf (drop at (now (m .entry))) ⌝ }
+{
+    let from = at + SIZE;
+    let a = digit_at(m, from);
+    let b = digit_at(m, from + 1);
+    let c = digit_at(m, from + 2);
+    let d = digit_at(m, from + 3);
+    ((a * BASE + b) * BASE + c) * BASE + d
+}
+
+// The bytes that the file at a place takes: "sizes plus 11 for each".
+pub fn file_length(m: &[u8], at: usize) -> usize
+    requires { ⌜ at ≤ length (now m) ⌝ }
+    ensures { λ r. ⌜ r ≡ 11 + sizeOf (drop at (now (m .entry))) ⌝ }
+{
+    RECORD + size_at(m, at)
+}
+
+// Whether the record at a place has a label and a type.
+fn is_at(m: &[u8], at: usize, label: u8, kind: u8) -> bool
+    requires { ⌜ at + 11 ≤ length (now m) ⌝ }
+    ensures { λ r. ⌜ r ≡ isAt label kind (drop at (now (m .entry))) ⌝ }
+{
+    m[at] == label && m[at + 1] == kind
+}
+
+// The file of a label and type among n files.
+pub fn find(m: &[u8], n: usize, label: u8, kind: u8) -> Found
+    requires { ⌜ holdsFiles n (now m) ≡ true ⌝ }
+    ensures { λ r. ⌜ r ≡ find label kind (filesOf n (now (m .entry))) 0 ⌝ }
+{
+    let mut at: usize = 0;
+    let mut left = n;
+    while 0 < left {
+        let size = size_at(m, at);
+        if is_at(m, at, label, kind) {
+            return Found::At(at + RECORD, size);
+        }
+        at = at + RECORD + size;
+        left -= 1;
+    }
+    Found::Nothing
+}
+
+// The bytes that n files take.
+pub fn used(m: &[u8], n: usize) -> usize
+    requires { ⌜ holdsFiles n (now m) ≡ true ⌝ }
+    ensures { λ r. ⌜ r ≡ used (filesOf n (now (m .entry))) ⌝ }
+{
+    let mut at: usize = 0;
+    let mut left = n;
+    while 0 < left {
+        at += file_length(m, at);
+        left -= 1;
+    }
+    at
+}

@@ -1,0 +1,138 @@
+// "Settings travel as one record, handed in and handed back": a method for each special function returns the next settings.
+use crate::Settings;
+use frame::is_own_type;
+ghost use mathlib.Core.Path.{_≡_};
+ghost use mathlib.Core.Bool.{_&&_, _||_};
+ghost use Rattle.octets.specs.Choice.{_is_, _≤?_, between};
+ghost use Rattle.board.specs.Settings.{FORMAT-S, FORMAT-M, OFF, ON, inRange, withTime, withDate, withFormat, withSpeaker, withAddress, withFiles};
+
+// time formats "S" and "M"
+pub const FORMAT_S: u8 = 0x53;
+
+pub const FORMAT_M: u8 = 0x4D;
+
+// the speaker
+pub const OFF: u8 = 0;
+
+pub const ON: u8 = 1;
+
+// the last of each that is in range
+const LAST_HOUR: u8 = 23;
+
+const LAST_MINUTE: u8 = 59;
+
+const LAST_MONTH: u8 = 12;
+
+const LAST_DAY: u8 = 31;
+
+const LAST_YEAR: u8 = 99;
+
+impl Settings {
+    pub fn with_time(self, hour: u8, minute: u8) -> Settings
+        ensures { λ r. ⌜ r ≡ withTime self hour minute ⌝ }
+    {
+        let mut next = self;
+        next.hour = hour;
+        next.minute = minute;
+        next
+    }
+
+    pub fn with_date(self, month: u8, day: u8, year: u8) -> Settings
+        ensures { λ r. ⌜ r ≡ withDate self month day year ⌝ }
+    {
+        let mut next = self;
+        next.month = month;
+        next.day = day;
+        next.year = year;
+        next
+    }
+
+    pub fn with_format(self, format: u8) -> Settings
+        ensures { λ r. ⌜ r ≡ withFormat self format ⌝ }
+    {
+        let mut next = self;
+        next.format = format;
+        next
+    }
+
+    pub fn with_speaker(self, speaker: u8) -> Settings
+        ensures { λ r. ⌜ r ≡ withSpeaker self speaker ⌝ }
+    {
+        let mut next = self;
+        next.speaker = speaker;
+        next
+    }
+
+    pub fn with_address(self, address: u8) -> Settings
+        ensures { λ r. ⌜ r ≡ withAddress self address ⌝ }
+    {
+        let mut next = self;
+        next.address = address;
+        next
+    }
+
+    pub fn with_files(self, files: u8) -> Settings
+        ensures { λ r. ⌜ r ≡ withFiles self files ⌝ }
+    {
+        let mut next = self;
+        next.files = files;
+        next
+    }
+}
+
+// low to high, both counted
+fn is_between(low: u8, high: u8, x: u8) -> bool
+    ensures { λ r. ⌜ r ≡ between low high x ⌝ }
+{
+    low <= x && x <= high
+}
+
+// "00:00 to 23:59"
+pub fn in_time(hour: u8, minute: u8) -> bool
+    ensures { λ r. ⌜ r ≡ (hour ≤? 23 && minute ≤? 59) ⌝ }
+{
+    hour <= LAST_HOUR && minute <= LAST_MINUTE
+}
+
+// "month 01 to 12, day 01 to 31"
+pub fn in_date(month: u8, day: u8) -> bool
+    ensures { λ r. ⌜ r ≡ (between 1 12 month && between 1 31 day) ⌝ }
+{
+    is_between(1, LAST_MONTH, month) && is_between(1, LAST_DAY, day)
+}
+
+// ""S" or "M""
+pub fn is_format(format: u8) -> bool
+    ensures { λ r. ⌜ r ≡ (format is FORMAT-S || format is FORMAT-M) ⌝ }
+{
+    format == FORMAT_S || format == FORMAT_M
+}
+
+// on or off
+fn is_speaker(speaker: u8) -> bool
+    ensures { λ r. ⌜ r ≡ (speaker is OFF || speaker is ON) ⌝ }
+{
+    speaker == OFF || speaker == ON
+}
+
+// "time, date, speaker, format, type are in range. Any address 00 to FF is in range."
+pub fn in_range(s: Settings) -> bool
+    ensures { λ r. ⌜ r ≡ inRange s ⌝ }
+{
+    if !in_time(s.hour, s.minute) {
+        return false;
+    }
+    if !in_date(s.month, s.day) {
+        return false;
+    }
+    if LAST_YEAR < s.year {
+        return false;
+    }
+    if !is_format(s.format) {
+        return false;
+    }
+    if !is_speaker(s.speaker) {
+        return false;
+    }
+    is_own_type(s.own)
+}

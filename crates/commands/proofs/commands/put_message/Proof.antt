@@ -1,0 +1,64 @@
+use Rattle.commands.proofs.Puts.{puts}
+use Rattle.commands.proofs.commands.put_message.Statement.{statement}
+use Rattle.commands.proofs.commands.put_message.Tie as tie
+
+cast-find : tie.Need-cast-find
+cast-find c = search puts
+
+find-requires : tie.Need-find-requires
+find-requires c κs = search puts
+
+enum-told : tie.Need-enum-told
+enum-told c = search puts
+
+refused-requires : tie.Need-refused-requires
+refused-requires c κs = search puts
+
+enum-known-start : tie.Need-enum-known-start
+enum-known-start c = search puts
+
+hold-requires : tie.Need-hold-requires
+hold-requires c κs = search puts
+
+refused-requires-2 : tie.Need-refused-requires-2
+refused-requires-2 c κs = search puts
+
+same-length : tie.Need-same-length
+same-length c = search puts
+
+returns : tie.Need-returns
+returns c = search puts
+
+refused-requires-3 : tie.Need-refused-requires-3
+refused-requires-3 c κs = search puts
+
+same-length-2 : tie.Need-same-length-2
+same-length-2 c = search puts
+
+returns-2 : tie.Need-returns-2
+returns-2 c = search puts
+
+same-length-3 : tie.Need-same-length-3
+same-length-3 c = search puts
+
+returns-3 : tie.Need-returns-3
+returns-3 c = search puts
+
+pub put-message-spec : {M : Type 1} → statement M
+put-message-spec =
+    tie.close
+    (tie.spec
+    cast-find
+    find-requires
+    enum-told
+    refused-requires
+    enum-known-start
+    hold-requires
+    refused-requires-2
+    same-length
+    returns
+    refused-requires-3
+    same-length-2
+    returns-2
+    same-length-3
+    returns-3)

@@ -1,0 +1,57 @@
+// One block on a sound board.
+use crate::Done;
+use crate::commands::read_file;
+use crate::commands::refused;
+use crate::commands::write_file;
+use crate::numbers::UNKNOWN;
+use crate::numbers::WRONG_CHECKSUM;
+use crate::special::read_special;
+use crate::special::write_special;
+use board::Settings;
+use board::files::STRING;
+use board::files::TEXT;
+use octets::bytes::A;
+use octets::bytes::B;
+use octets::bytes::E;
+use octets::bytes::F;
+use octets::bytes::G;
+use octets::bytes::H;
+ghost use mathlib.Core.Path.{_≡_};
+ghost use Rattle.body.specs.Body.{block};
+ghost use Rattle.commands.specs.Commands.{board};
+ghost use Rattle.commands.specs.Blocks.{command, runBlock};
+ghost use Rattle.commands.specs.Doing.{Does, Ready};
+
+// "What each command does", by its byte; the reply to B is written with A, that to H with G.
+fn command(s: Settings, m: &mut [u8], code: u8, text: &[u8], out: &mut [u8]) -> Done
+    requires { ⌜ Ready s (now m) (now out) ⌝ }
+    ensures { λ r. ⌜ Does (now (out .entry)) (command (board s (now (m .entry))) code (now (text .entry))) r (now (m .exit)) (now (out .exit)) ⌝ }
+{
+    match code {
+        A => write_file(s, m, TEXT, text),
+        G => write_file(s, m, STRING, text),
+        B => read_file(s, m, TEXT, A, text, out),
+        H => read_file(s, m, STRING, G, text, out),
+        E => write_special(s, m, text),
+        F => read_special(s, m, text, out),
+        _ => refused(s, UNKNOWN),
+    }
+}
+
+// A block: command byte, data, and whether its sum is right.
+pub fn run_block(
+    s: Settings,
+    m: &mut [u8],
+    code: u8,
+    text: &[u8],
+    right: bool,
+    out: &mut [u8],
+) -> Done
+    requires { ⌜ Ready s (now m) (now out) ⌝ }
+    ensures { λ r. ⌜ Does (now (out .entry)) (runBlock (board s (now (m .entry))) (block code (now (text .entry)) right)) r (now (m .exit)) (now (out .exit)) ⌝ }
+{
+    if !right {
+        return refused(s, WRONG_CHECKSUM);
+    }
+    command(s, m, code, text, out)
+}

@@ -1,0 +1,112 @@
+// The commands A, G, B and H.
+use crate::Done;
+use crate::numbers::MALFORMED;
+use crate::numbers::NO_FILE;
+use crate::numbers::TOO_LONG;
+use crate::reply::DATA;
+use crate::reply::reply;
+use board::Found;
+use board::Settings;
+use board::files::find;
+use buffers::copying::copy_at;
+use buffers::copying::zero_at;
+use octets::slices::plain_run;
+ghost use mathlib.Core.Path.{_≡_};
+ghost use mathlib.Core.Bool.{true};
+ghost use Prim.Native.Nat.{_+_, _≤_};
+ghost use lib.ListN.{length, take, drop};
+ghost use Rattle.octets.specs.Choice.{front};
+ghost use Rattle.octets.specs.Bytes.{isPlain};
+ghost use Rattle.board.specs.Soundness.{sound};
+ghost use Rattle.commands.specs.Commands.{board, findOn, holding, putMessage, writeFile, getContent, readFile};
+ghost use Rattle.commands.specs.Doing.{Room, Told, doneAs, Acts, Tells, Ready};
+
+// A block that is refused: nothing changes and there is no reply.
+pub fn refused(s: Settings, number: u8) -> Done
+    ensures { λ r. ⌜ r ≡ doneAs number s 0 ⌝ }
+{
+    Done {
+        number,
+        settings: s,
+        length: 0,
+    }
+}
+
+// "The TEXT or STRING file then holds the message, zeros after it."
+fn hold(m: &mut [u8], start: usize, size: usize, message: &[u8])
+    requires { ⌜ Room (now m) start size (now message) ⌝ }
+    ensures { λ r. ⌜ now (m .exit) ≡ holding (now (m .entry)) start size (now (message .entry)) ⌝ }
+{
+    let n = message.len();
+    copy_at(m, start, message);
+    zero_at(m, start + n, size - n);
+}
+
+// 23, the message put, or 24.
+fn put_message(s: Settings, m: &mut [u8], label: u8, kind: u8, message: &[u8]) -> Done
+    requires { ⌜ sound s (now m) ≡ true ⌝ }
+    ensures { λ r. ⌜ Acts (putMessage (board s (now (m .entry))) (findOn (board s (now (m .entry))) label kind) (now (message .entry))) r (now (m .exit)) ⌝ }
+{
+    match find(m, s.files as usize, label, kind) {
+        Found::Nothing => refused(s, NO_FILE),
+        Found::At(start, size) => {
+            if message.len() <= size {
+                hold(m, start, size, message);
+                return refused(s, 0);
+            }
+            refused(s, TOO_LONG)
+        }
+    }
+}
+
+// "A, G: label and message, which may be empty."
+pub fn write_file(s: Settings, m: &mut [u8], kind: u8, text: &[u8]) -> Done
+    requires { ⌜ sound s (now m) ≡ true ⌝ }
+    ensures { λ r. ⌜ Acts (writeFile kind (board s (now (m .entry))) (now (text .entry))) r (now (m .exit)) ⌝ }
+{
+    if text.len() == 0 {
+        return refused(s, MALFORMED);
+    }
+    put_message(s, m, text[0], kind, &text[1..])
+}
+
+// A content without its zeros, put where a reply's data stand.
+fn tell_content(content: &[u8], out: &mut [u8]) -> usize
+    requires { ⌜ length (now content) + 33 ≤ length (now out) ⌝ }
+    ensures { λ r. ⌜ Told (now (out .entry)) (front isPlain (now (content .entry))) (now (out .exit)) r ⌝ }
+{
+    let n = plain_run(content, 0);
+    copy_at(out, DATA, &content[..n]);
+    n
+}
+
+// 23, or the reply with the content.
+fn get_content(s: Settings, m: &[u8], label: u8, kind: u8, code: u8, out: &mut [u8]) -> Done
+    requires { ⌜ Ready s (now m) (now out) ⌝ }
+    ensures { λ r. ⌜ Tells (board s (now (m .entry))) (now (out .entry)) (getContent code (board s (now (m .entry))) label (findOn (board s (now (m .entry))) label kind)) r (now (out .exit)) ⌝ }
+{
+    match find(m, s.files as usize, label, kind) {
+        Found::Nothing => refused(s, NO_FILE),
+        Found::At(start, size) => {
+            let end = start + size;
+            let n = tell_content(&m[start..end], out);
+            let length = reply(out, code, label, n);
+            Done {
+                number: 0,
+                settings: s,
+                length,
+            }
+        }
+    }
+}
+
+// "B, H: label alone. The reply carries the content without its zeros."
+pub fn read_file(s: Settings, m: &[u8], kind: u8, code: u8, text: &[u8], out: &mut [u8]) -> Done
+    requires { ⌜ Ready s (now m) (now out) ⌝ }
+    ensures { λ r. ⌜ Tells (board s (now (m .entry))) (now (out .entry)) (readFile kind code (board s (now (m .entry))) (now (text .entry))) r (now (out .exit)) ⌝ }
+{
+    if text.len() != 1 {
+        return refused(s, MALFORMED);
+    }
+    get_content(s, m, text[0], kind, code, out)
+}

@@ -1,0 +1,23 @@
+use native.Mathlib.Omega.{arith}
+use Rattle.forms.proofs.Puttings.{puts-near, nuls-near, headings}
+use Rattle.forms.proofs.forms.put_heading.Statement.{statement}
+use Rattle.forms.proofs.forms.put_heading.Tie as tie
+
+put-nuls-requires : tie.Need-put-nuls-requires
+put-nuls-requires c κs = search headings
+
+put-one-requires : tie.Need-put-one-requires
+put-one-requires c κs = omega (arith, nuls-near)
+
+put-all-requires : tie.Need-put-all-requires
+put-all-requires c κs = omega (arith, nuls-near, puts-near)
+
+same-length : tie.Need-same-length
+same-length c = search headings
+
+returns : tie.Need-returns
+returns c = search headings
+
+pub put-heading-spec : {M : Type 1} → statement M
+put-heading-spec =
+    tie.close (tie.spec put-nuls-requires put-one-requires put-all-requires same-length returns)

@@ -1,0 +1,22 @@
+// The frame layer: bytes to header and commands, and back. What stands here is what the layer promises;
+// the sign layer, the gateway and the programs use these calls and no others of the crates below.
+
+// Reading a frame, block by block.
+pub use body::BlockStep;
+pub use body::reader::Reader;
+pub use body::reader::open_at;
+pub use body::reader::step;
+pub use body::reader::step_from;
+pub use reading::Read;
+pub use reading::reading::read;
+
+// The sum of a block, the fit of a header to a board, and the types that a board may have.
+pub use body::sum::checksum;
+pub use header::addressing::addressed;
+pub use header::addressing::is_own_type;
+
+// Writing a one-command frame, putting a frame into another form, joining two frames.
+pub use forms::Written;
+pub use forms::joining::join;
+pub use forms::reforming::reform;
+pub use forms::writing::write;

@@ -1,0 +1,1 @@
+// The third demand: what is stated is in specs/, its proof in proofs/.

@@ -1,0 +1,219 @@
+-- What a reading answers by places, read back: what the definitions read.
+use mathlib.Core.Path.{_≡_, refl, sym, ap, _∙_}
+use mathlib.Core.Bool.{Bool, true, false, not, _||_}
+use mathlib.Core.List.{List, []}
+use Prim.Native.Nat.{ℕ, _+_, _-_, _<_, _≤_}
+use native.Mathlib.Omega.{arith}
+use borrow.Author.Tests.{eqb-true, ltb-false, le-ltb, ne-eqb}
+use lib.ListN.{length, take, drop, length-take, drop-of-length-le}
+use lib.Seq.{take-at}
+use Rattle.octets.specs.Choice.{_is_, _<?_, _!_, none, front, behind}
+use Rattle.octets.specs.Bytes.{NUL, SOH, ESCAPE, STANDARD, PRINTABLE, TRANSLATED, BLOCKS}
+use Rattle.octets.specs.Buffer.{overlay}
+use Rattle.octets.proofs.Tests.{compare, choice, never, or-in}
+use Rattle.header.specs.Header.{isHeader}
+use Rattle.body.specs.Body.{Block, Body, badBody, body as bodyOf, blocks, readNotLast}
+use Rattle.body.specs.Steps.{part}
+use Rattle.reading.specs.Translation.{Translation, untranslated, translated, translate}
+use Rattle.reading.specs.Lead.{Led, misled, led, leadOf}
+use Rattle.reading.specs.Reading.{Reading, refused, frame, notStx, readBody, readHeader, readLed}
+use Rattle.reading.specs.Reading.{readTranslated, readPrintable, readStandard, read}
+use Rattle.reading.specs.Places.{isPrintable, bytesOf, behindLead, headerIn, placesOf, readPlaces}
+use Rattle.reading.specs.Places.{fill, roomAfter, Reads, shown, readView}
+use Rattle.reading.specs.declared.Read.{Read}
+use Rattle.reading.specs.declared.Read.the-variants.{Refused, Standard, Printable}
+use Rattle.reading.proofs.Rooms.{header-standard, stands-printable, header-printable}
+use Rattle.reading.proofs.Parting.{head-text, rest-from, EndsLed, lead-ends}
+
+-- a frame whose bytes are t reads as r: its header starts at place i, its body at place j
+pub record Stands (t : List ℕ) (i j : ℕ) (r : Reading) : Type 0 where
+  pub blocks-list : List Block
+  pub body : blocks BLOCKS (drop j t) ≡ bodyOf blocks-list
+  pub reads : r ≡ frame (part i j t) blocks-list
+  pub ordered : i ≤ j
+  pub inside : j < length t
+  pub short : length t ≤ 8192
+
+-- ---- behind a lead that ends at place i
+
+abbrev StandsAt : List ℕ → ℕ → Reading → Type 0
+StandsAt t i (refused n) = Unit {0}
+StandsAt t i (frame h bs) = Stands t i (i + length h) (frame h bs)
+
+some-left : (t : List ℕ) (j : ℕ) → none (drop j t) ≡ false → j < length t
+some-left t j e = compare j (length t) (λ h. h) (λ h. never (rw (drop-of-length-le t h) at e))
+
+module _ (t : List ℕ) (i : ℕ) (s : length t ≤ 8192) where
+  stands-body : (x : Body) → none (behind notStx (drop i t)) ≡ false → blocks BLOCKS (behind notStx (drop i t)) ≡ x
+      → StandsAt t i (readBody (front notStx (drop i t)) x)
+  unfolding readBody
+  stands-body badBody m e = tt
+  stands-body (bodyOf bs) m e =
+      let h = front notStx (drop i t) in
+      let j = i + length h in
+      let z = rest-from t i j refl in
+      choice (StandsAt t i) (readNotLast false bs) (λ y. tt)
+      (λ y. record {
+        blocks-list = bs;
+        body = rw (← z) e;
+        reads = ap (λ x. frame x bs) (head-text t i j refl);
+        ordered = omega arith;
+        inside = some-left t j (rw (← z) m);
+        short = s;
+      })
+
+  stands-led : StandsAt t i (readLed (led (drop i t)))
+  unfolding readLed readHeader
+  stands-led =
+      choice (StandsAt t i) (none (behind notStx (drop i t))) (λ m. tt)
+      (λ m. choice (StandsAt t i) (not (isHeader (front notStx (drop i t)))) (λ y. tt)
+      (λ y. stands-body (blocks BLOCKS (behind notStx (drop i t))) m refl))
+
+-- ---- the bytes that a frame stands for
+
+header-behind : (printable : Bool) (t l : List ℕ) → leadOf printable t ≡ led l → headerIn printable t ≡ length t - length l
+unfolding headerIn behindLead
+header-behind printable t l e = rw e
+
+stands-part : (printable : Bool) (t : List ℕ) → length t ≤ 8192 → StandsAt t (headerIn printable t) (readLed (leadOf printable t))
+unfolding readLed
+stands-part printable t s = go (leadOf printable t) refl (lead-ends printable t)
+  where
+    go : (x : Led) → leadOf printable t ≡ x → EndsLed t x → StandsAt t (headerIn printable t) (readLed x)
+    go misled e w = tt
+    go (led l) e w = rw (header-behind printable t l e) (rw (← w .tail) at (stands-led t (length t - length l) s))
+
+-- ---- a frame by its places
+
+-- n bytes at the start of a room are a frame that reads as r
+pub record Printed (room : List ℕ) (n i j : ℕ) (r : Reading) : Type 0 where
+  pub fits : n ≤ 8192
+  pub within : n ≤ length room
+  pub counts : n ≡ length (take n room)
+  pub stands : Stands (take n room) i j r
+
+-- what places say of the reading
+abbrev pub PlacesOf : List ℕ → List ℕ → Read → Type 0
+PlacesOf s room (Refused n) = read s ≡ refused n
+PlacesOf s room (Standard i j) = Stands s i j (read s)
+PlacesOf s room (Printable n i j) = Printed (roomAfter s room) n i j (read s)
+
+module _ (s room : List ℕ) where
+  abbrev Said : Reading → Type 0
+  Said x = read s ≡ x → PlacesOf s room (placesOf s x)
+
+  said-refused : (n : ℕ) → Said (refused n)
+  unfolding placesOf
+  said-refused n e = e
+
+  -- a standard frame
+  said-parts : isPrintable s ≡ false → (x : Reading) → StandsAt s (headerIn false s) x → Said x
+  unfolding placesOf
+  said-parts p (refused n) w e = e
+  said-parts p (frame t bs) w e = rw (p, header-standard s p, e) w
+
+  said-standard : isPrintable s ≡ false → Said (readStandard s)
+  unfolding readStandard
+  said-standard p =
+      choice Said (STANDARD <? length s) (λ y. said-refused 3)
+      (λ y. let h = ltb-false STANDARD (length s) y in said-parts p (readLed (leadOf false s)) (stands-part false s h))
+
+  -- a printable frame that stands for t
+  module _ (p : isPrintable s ≡ true) (l : length s ≤ PRINTABLE) (t : List ℕ) (d : translate s ≡ translated t) (h : length t ≤ 8192) where
+    bytes-are : bytesOf (translate s) ≡ t
+    unfolding bytesOf
+    bytes-are = rw d
+
+    room-printable : roomAfter s room ≡ overlay room t
+    unfolding roomAfter fill
+    room-printable = rw (p, le-ltb PRINTABLE (length s) l, d, le-ltb TRANSLATED (length t) h)
+
+    room-front : take (length t) (roomAfter s room) ≡ t
+    unfolding overlay
+    room-front = rw room-printable (take-at t (drop (length t) room) (length t) refl)
+
+    room-within : length t ≤ length (roomAfter s room)
+    room-within = omega (arith, ap length room-front, length-take (length t) (roomAfter s room))
+
+    said-room : (x : Reading) → StandsAt t (headerIn true t) x → Said x
+    unfolding placesOf
+    said-room (refused n) w e = e
+    said-room (frame u bs) w e =
+        rw (p, stands-printable s p, header-printable s p, bytes-are) (record { fits = h; within = room-within; counts = rw room-front; stands = rw (room-front, e) w })
+
+  said-printable : isPrintable s ≡ true → Said (readPrintable s)
+  unfolding readPrintable readTranslated
+  said-printable p =
+      choice Said (PRINTABLE <? length s) (λ y. said-refused 3)
+      (λ y. go (ltb-false PRINTABLE (length s) y) (translate s) refl)
+    where
+      go : length s ≤ PRINTABLE → (x : Translation) → translate s ≡ x → Said (readTranslated x)
+      go l untranslated d = said-refused 5
+      go l (translated t) d =
+          choice Said (TRANSLATED <? length t) (λ y. said-refused 3)
+          (λ y. let h = ltb-false TRANSLATED (length t) y in said-room p l t d h (readLed (leadOf true t)) (stands-part true t h))
+
+  opened-standard : (s ! 0 is NUL || s ! 0 is SOH) ≡ true → isPrintable s ≡ false
+  opened-standard =
+      or-in
+      (λ e. let z = eqb-true (s ! 0) NUL e in ne-eqb (s ! 0) ESCAPE (λ f. omega arith))
+      (λ e. let z = eqb-true (s ! 0) SOH e in ne-eqb (s ! 0) ESCAPE (λ f. omega arith))
+
+  -- what a reading answers says what the definitions read
+  pub places-of : PlacesOf s room (readPlaces s)
+  unfolding readPlaces read
+  places-of =
+      choice Said (none s) (λ y. said-refused 3)
+      (λ y. choice Said (s ! 0 is NUL || s ! 0 is SOH) (λ e. said-standard (opened-standard e))
+      (λ n. choice Said (isPrintable s) (λ p. said-printable p) (λ p. said-refused 4)))
+      refl
+
+-- ---- for callers, case by case
+
+pub places-refused : (s : List ℕ) (n : ℕ) → readPlaces s ≡ Refused n → read s ≡ refused n
+places-refused s n e = rw e at (places-of s [])
+
+pub places-standard : (s : List ℕ) (i j : ℕ) → readPlaces s ≡ Standard i j → Stands s i j (read s)
+places-standard s i j e = rw e at (places-of s [])
+
+pub places-printable : (s room : List ℕ) (n i j : ℕ) → readPlaces s ≡ Printable n i j → Printed (roomAfter s room) n i j (read s)
+places-printable s room n i j e = rw e at (places-of s room)
+
+-- the same of what a call promises
+module _ {s room after : List ℕ} {answer : Read} (g : Reads s room answer after) where
+  pub reads-refused : {n : ℕ} → answer ≡ Refused n → read s ≡ refused n
+  reads-refused {n} e = places-refused s n (sym (g .places) ∙ e)
+
+  pub reads-standard : {i j : ℕ} → answer ≡ Standard i j → Stands s i j (read s)
+  reads-standard {i} {j} e = places-standard s i j (sym (g .places) ∙ e)
+
+  pub reads-printable : {n i j : ℕ} → answer ≡ Printable n i j → Printed after n i j (read s)
+  reads-printable {n} {i} {j} e = rw (g .left) (places-printable s room n i j (sym (g .places) ∙ e))
+
+  -- what lending that many bytes of the room asks
+  pub reads-within : {n i j : ℕ} → answer ≡ Printable n i j → n ≤ length after
+  reads-within e = reads-printable e .within
+
+  pub reads-counts : {n i j : ℕ} → answer ≡ Printable n i j → n ≡ length (take n after)
+  reads-counts e = reads-printable e .counts
+
+pub ruleset reads-as = (reads-refused, reads-standard, reads-printable, reads-within, reads-counts)
+
+-- ---- places read back
+
+view-stands : (t : List ℕ) (i j : ℕ) (r : Reading) → Stands t i j r → shown (part i j t) (blocks BLOCKS (drop j t)) ≡ r
+unfolding shown
+view-stands t i j r w = rw (w .body) (sym (w .reads))
+
+pub read-view : (s room : List ℕ) → readView s (roomAfter s room) (readPlaces s) ≡ read s
+unfolding readView
+read-view s room = go (readPlaces s) (places-of s room)
+  where
+    go : (x : Read) → PlacesOf s room x → readView s (roomAfter s room) x ≡ read s
+    go (Refused n) w = sym w
+    go (Standard i j) w = view-stands s i j (read s) w
+    go (Printable n i j) w = view-stands (take n (roomAfter s room)) i j (read s) (w .stands)
+
+-- whatever a call answers and leaves, read back, is what the definitions read
+pub reads-view : {s room after : List ℕ} {answer : Read} → Reads s room answer after → readView s after answer ≡ read s
+reads-view {s} {room} g = rw (g .left, g .places) (read-view s room)

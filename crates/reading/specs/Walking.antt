@@ -1,0 +1,65 @@
+-- What the parts of a reading answer, by the definitions: for the contracts of the inner functions only.
+use Prim.Native.Nat.{ℕ, _+_, _-_}
+use mathlib.Core.Bool.{Bool, true, false}
+use mathlib.Core.List.{List, [], _∷_}
+use lib.ListN.{length, drop}
+use Rattle.octets.specs.Choice.{if_then_else_, _is_, between}
+use Rattle.octets.specs.Bytes.{ESCAPE}
+use Rattle.octets.specs.Carried.{isCarried2, carried2}
+use Rattle.reading.specs.Translation.{Translation, untranslated, translated}
+use Rattle.reading.specs.Lead.{Led, misled, led}
+use Rattle.reading.specs.Reading.{Reading, refused, frame}
+use Rattle.reading.specs.Places.{headerIn}
+use Rattle.reading.specs.declared.Read.{Read}
+use Rattle.reading.specs.declared.Read.the-variants.{Refused, Printable}
+use Rattle.reading.specs.declared.translation.Char.{Char}
+use Rattle.reading.specs.declared.translation.Char.the-variants.{Stands, Faulty}
+use Rattle.reading.specs.declared.translation.Counted.{Counted}
+use Rattle.reading.specs.declared.translation.Counted.the-variants.{Bytes, Faulty as NoCount}
+use Rattle.reading.specs.declared.lead.LeadEnd.{LeadEnd}
+use Rattle.reading.specs.declared.lead.LeadEnd.the-variants.{At, Wrong}
+use Rattle.reading.specs.declared.reading.BodyPlace.{BodyPlace}
+use Rattle.reading.specs.declared.reading.BodyPlace.the-variants.{At as BodyAt, Refused as NoBody}
+use Rattle.reading.specs.declared.reading.Parts.{Parts}
+use Rattle.reading.specs.declared.reading.Parts.the-variants.{At as PartsAt, Refused as NoParts}
+
+-- the byte that a printable list starts with, at place i of a longer one
+unfoldable pub charIn : ℕ → List ℕ → Char
+charIn i [] = Faulty
+charIn i (x ∷ l) =
+    if x is ESCAPE then (if isCarried2 l then Stands (carried2 l) (i + 3) else Faulty)
+    else if between 0x20 0x7E x then Stands x (i + 1)
+    else Faulty
+
+unfoldable pub charAt : List ℕ → ℕ → Char
+charAt s i = charIn i (drop i s)
+
+-- how many bytes a translation has
+unfoldable pub counted : Translation → Counted
+counted untranslated = NoCount
+counted (translated t) = Bytes (length t)
+
+-- a translation without a fault
+unfoldable pub isWhole : Translation → Bool
+isWhole untranslated = false
+isWhole (translated t) = true
+
+-- where a lead of t ends
+unfoldable pub leadEnd : List ℕ → Led → LeadEnd
+leadEnd t misled = Wrong
+leadEnd t (led l) = At (length t - length l)
+
+-- where the body starts, of a header that starts at a place
+unfoldable pub bodyPlace : ℕ → Reading → BodyPlace
+bodyPlace at (refused n) = NoBody n
+bodyPlace at (frame h bs) = BodyAt (at + length h)
+
+-- where header and body start in the bytes t
+unfoldable pub partPlaces : Bool → List ℕ → Reading → Parts
+partPlaces printable t (refused n) = NoParts n
+partPlaces printable t (frame h bs) = PartsAt (headerIn printable t) (headerIn printable t + length h)
+
+-- the same as a reading of a printable frame that stands for t answers it
+unfoldable pub roomPlaces : List ℕ → Reading → Read
+roomPlaces t (refused n) = Refused n
+roomPlaces t (frame h bs) = Printable (length t) (headerIn true t) (headerIn true t + length h)

@@ -1,0 +1,171 @@
+// How a frame reads: "empty (3), first byte (4), raw length (3), 5, translated length (3), lead (4), 6, 7, 8".
+use crate::Read;
+use crate::lead::LeadEnd;
+use crate::lead::lead_end;
+use crate::translation::Counted;
+use crate::translation::count_translated;
+use crate::translation::translate_into;
+use body::judging::judge;
+use header::header::is_header;
+use octets::bytes::ESCAPE;
+use octets::bytes::NUL;
+use octets::bytes::PRINTABLE;
+use octets::bytes::SOH;
+use octets::bytes::STANDARD;
+use octets::bytes::STX;
+use octets::bytes::TRANSLATED;
+use octets::slices::byte_at;
+ghost use mathlib.Core.Path.{_≡_};
+ghost use mathlib.Core.Bool.{true, false, _||_};
+ghost use Prim.Native.Nat.{_+_, _≤_};
+ghost use lib.ListN.{length, take, drop};
+ghost use lib.ListN.{length as listLength};
+ghost use Rattle.octets.specs.Choice.{_is_, front};
+ghost use Rattle.octets.specs.Bytes.{NUL, SOH};
+ghost use Rattle.reading.specs.Lead.{led, leadOf};
+ghost use Rattle.reading.specs.Reading.{notStx, readLed, readStandard};
+ghost use Rattle.reading.specs.Places.{isPrintable, placesOf, Reads};
+ghost use Rattle.reading.specs.Walking.{bodyPlace, partPlaces, roomPlaces};
+
+// "input empty, over 8,192 bytes standard or 24,576 printable, or over 8,192 translated"
+pub const WRONG_LENGTH: u8 = 3;
+
+// "wrong first byte or lead"
+pub const WRONG_LEAD: u8 = 4;
+
+// "printable: bad escape or byte outside 20H to 7EH"
+pub const BAD_PRINTABLE: u8 = 5;
+
+// "bad header, or "z""
+pub const BAD_HEADER: u8 = 6;
+
+// Where the body starts; or a number from 6 to 8.
+enum BodyPlace {
+    At(usize),
+    Refused(u8),
+}
+
+// Where header and body start; or a number 4 or from 6 to 8.
+enum Parts {
+    At { header: usize, body: usize },
+    Refused(u8),
+}
+
+// Where the first STX from a place on stands, or the end.
+fn stx_from(t: &[u8], from: usize) -> usize
+    ensures { λ r. ⌜ r ≡ from + length (front notStx (drop from (now (t .entry)))) ⌝ }
+{
+    let mut i = from;
+    while i < t.len() {
+        if t[i] == STX {
+            return i;
+        }
+        i += 1;
+    }
+    i
+}
+
+// The header from a place on, and the body behind it.
+fn read_led(t: &[u8], header: usize) -> BodyPlace
+    requires { ⌜ header ≤ length (now t) ⌝ }
+    ensures { λ r. ⌜ r ≡ bodyPlace header (readLed (led (drop header (now (t .entry))))) ⌝ }
+{
+    let body = stx_from(t, header);
+    if t.len() <= body {
+        return BodyPlace::Refused(BAD_HEADER);
+    }
+    if !is_header(&t[header..body]) {
+        return BodyPlace::Refused(BAD_HEADER);
+    }
+    let number = judge(t, body);
+    if number != 0 {
+        return BodyPlace::Refused(number);
+    }
+    BodyPlace::At(body)
+}
+
+// Lead, header and body of the bytes that a frame stands for.
+fn read_parts(t: &[u8], printable: bool) -> Parts
+    ensures { λ r. ⌜ r ≡ partPlaces printable (now (t .entry)) (readLed (leadOf printable (now (t .entry)))) ⌝ }
+{
+    match lead_end(t, printable) {
+        LeadEnd::Wrong => Parts::Refused(WRONG_LEAD),
+        LeadEnd::At(header) => match read_led(t, header) {
+            BodyPlace::Refused(number) => Parts::Refused(number),
+            BodyPlace::At(body) => Parts::At { header, body },
+        },
+    }
+}
+
+// A frame whose first byte is 00H or 01H.
+fn read_standard(s: &[u8]) -> Read
+    requires { ⌜ isPrintable (now s) ≡ false ⌝ }
+    ensures { λ r. ⌜ r ≡ placesOf (now (s .entry)) (readStandard (now (s .entry))) ⌝ }
+{
+    if STANDARD < s.len() {
+        return Read::Refused(WRONG_LENGTH);
+    }
+    match read_parts(s, false) {
+        Parts::Refused(number) => Read::Refused(number),
+        Parts::At { header, body } => Read::Standard { header, body },
+    }
+}
+
+// The bytes in the room that a printable frame stands for, so many of them.
+fn read_room(room: &[u8], length: usize) -> Read
+    requires { ⌜ length ≤ listLength (now room) ⌝ }
+    ensures { λ r. ⌜ r ≡ roomPlaces (take length (now (room .entry))) (readLed (leadOf true (take length (now (room .entry))))) ⌝ }
+{
+    match read_parts(&room[..length], true) {
+        Parts::Refused(number) => Read::Refused(number),
+        Parts::At { header, body } => Read::Printable {
+            length,
+            header,
+            body,
+        },
+    }
+}
+
+// A frame whose first byte is 5FH.
+fn read_printable(s: &[u8], room: &mut [u8; 8192]) -> Read
+    requires { ⌜ isPrintable (now s) ≡ true ⌝ }
+    ensures { λ r. ⌜ Reads (now (s .entry)) (now (room .entry)) r (now (room .exit)) ⌝ }
+{
+    if PRINTABLE < s.len() {
+        return Read::Refused(WRONG_LENGTH);
+    }
+    match count_translated(s) {
+        Counted::Faulty => Read::Refused(BAD_PRINTABLE),
+        Counted::Bytes(length) => {
+            if TRANSLATED < length {
+                return Read::Refused(WRONG_LENGTH);
+            }
+            translate_into(s, room);
+            read_room(room, length)
+        }
+    }
+}
+
+// "First byte 00H or 01H: standard."
+fn opens_standard(first: u8) -> bool
+    ensures { λ r. ⌜ r ≡ (first is NUL || first is SOH) ⌝ }
+{
+    first == NUL || first == SOH
+}
+
+// Reading a frame: where its header and its blocks stand, in the frame itself or, for a printable one, in the room.
+pub fn read(s: &[u8], room: &mut [u8; 8192]) -> Read
+    ensures { λ r. ⌜ Reads (now (s .entry)) (now (room .entry)) r (now (room .exit)) ⌝ }
+{
+    if s.len() == 0 {
+        return Read::Refused(WRONG_LENGTH);
+    }
+    let first = byte_at(s, 0);
+    if first == ESCAPE {
+        return read_printable(s, room);
+    }
+    if opens_standard(first) {
+        return read_standard(s);
+    }
+    Read::Refused(WRONG_LEAD)
+}

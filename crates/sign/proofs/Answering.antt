@@ -1,0 +1,111 @@
+-- What a run answers, case by case.
+use Prim.Native.Nat.{ℕ, _+_, _<_, _≤_}
+use mathlib.Core.Path.{_≡_, sym, ap, _∙_}
+use mathlib.Core.Bool.{Bool, true, false, not}
+use mathlib.Core.List.{List}
+use native.Mathlib.Omega.{arith}
+use borrow.Author.Needs.{needs}
+use borrow.Author.Tests.{lt-ltb, le-ltb, not-false}
+use lib.ListN.{length, take}
+use Rattle.octets.specs.Choice.{_<?_}
+use Rattle.header.specs.Addressing.{addressed}
+use Rattle.body.specs.Steps.{part, isBody, bodyAt, blocksIn, blocksAt}
+use Rattle.reading.specs.Reading.{Reading, refused, frame, read}
+use Rattle.reading.specs.Places.{Reads}
+use Rattle.reading.specs.declared.Read.{Read}
+use Rattle.reading.specs.declared.Read.the-variants.{Refused, Standard, Printable}
+use Rattle.reading.proofs.Viewing.{Stands, reads-refused, reads-standard, reads-printable, reads-within, reads-counts}
+use Rattle.board.specs.Soundness.{sound}
+use Rattle.board.specs.declared.Settings.{Settings}
+use Rattle.commands.specs.Commands.{board}
+use Rattle.commands.specs.Doing.{Ready}
+use Rattle.sign.specs.Run.{nothing, state, runBlocks, outcome, ran, runFrame, run}
+use Rattle.sign.specs.Running.{answerAs, stateAs, Running, Parted}
+use Rattle.sign.specs.declared.Tally.{Tally}
+use Rattle.sign.specs.declared.Answer.{Answer}
+use Rattle.sign.specs.declared.run.Ran.{Ran}
+
+pub untouched-as : (n : ℕ) (s : Settings) (u : Tally) → u ≡ nothing → answerAs n u s ≡ answerAs n nothing s
+untouched-as n s u e = ap (λ (x : Tally). answerAs n x s) e
+
+-- ---- a frame that was read
+module _ (s : Settings) (m o t : List ℕ) (i j : ℕ) (b : Bool) (e : b ≡ addressed (s .own) (s .address) (part i j t)) where
+  -- 9
+  pub frame-away : not b ≡ true → (r : Answer) → r ≡ answerAs 9 nothing s → outcome r m o ≡ runFrame s m o (frame (part i j t) (blocksAt t j))
+  unfolding runFrame
+  frame-away y r q = rw (q, ← e, y)
+
+  -- 0
+  pub frame-ran : not b ≡ false → (x : Ran) (m′ o′ : List ℕ) → stateAs x m′ o′ ≡ runBlocks (state (board s m) o nothing) (blocksAt t j) →
+      outcome (answerAs 0 (x .tally) (x .settings)) m′ o′ ≡ runFrame s m o (frame (part i j t) (blocksAt t j))
+  unfolding runFrame
+  frame-ran y x m′ o′ f = rw (← e, y) (ap ran f)
+
+pub ruleset framing = (untouched-as, frame-away, frame-ran, needs)
+
+-- ---- a whole run
+
+-- where a frame stands, its body is good, and these are its blocks
+stands-good : {t : List ℕ} {i j : ℕ} {r : Reading} → Stands t i j r → bodyAt t j ≡ true
+unfolding bodyAt isBody
+stands-good w = rw (w .body)
+
+stands-frame : {t : List ℕ} {i j : ℕ} {r : Reading} → Stands t i j r → r ≡ frame (part i j t) (blocksAt t j)
+unfolding blocksAt blocksIn
+stands-frame w = rw (w .body) (w .reads)
+
+module _ (s : Settings) (m o f : List ℕ) (b : Bool) (e : b ≡ sound s m) where
+  -- 1
+  pub run-unsound : not b ≡ true → (r : Answer) → r ≡ answerAs 1 nothing s → outcome r m o ≡ run s m o f
+  unfolding run
+  run-unsound y r q = rw (q, ← e, y)
+
+  module _ (y : not b ≡ false) where
+    -- 2
+    pub run-short : length o < length m + 64 → (r : Answer) → r ≡ answerAs 2 nothing s → outcome r m o ≡ run s m o f
+    unfolding run
+    run-short l r q = rw (q, ← e, y, lt-ltb (length o) (length m + 64) l)
+
+    module _ (l : length m + 64 ≤ length o) where
+      run-on : run s m o f ≡ runFrame s m o (read f)
+      unfolding run
+      run-on = rw (← e, y, le-ltb (length o) (length m + 64) l)
+
+      -- where a frame stands in bytes t
+      parted : {t : List ℕ} {i j : ℕ} → Stands t i j (read f) → Parted s m o t i j
+      parted w =
+          record {
+            running = record { ready = record { sound = sym e ∙ not-false b y; room = l }; good = stands-good w };
+            ordered = w .ordered;
+            inside = omega arith;
+          }
+
+      answered : {t : List ℕ} {i j : ℕ} → Stands t i j (read f) → (r : Answer) (m′ o′ : List ℕ) →
+          outcome r m′ o′ ≡ runFrame s m o (frame (part i j t) (blocksAt t j)) → outcome r m′ o′ ≡ run s m o f
+      answered w r m′ o′ q = q ∙ sym (run-on ∙ ap (runFrame s m o) (stands-frame w))
+
+      module _ {room after : List ℕ} {x : Read} (g : Reads f room x after) where
+        -- 3 to 8
+        pub run-refused : {n : ℕ} → x ≡ Refused n → (r : Answer) → r ≡ answerAs n nothing s → outcome r m o ≡ run s m o f
+        unfolding runFrame
+        run-refused h r q = rw (q, run-on, reads-refused g h)
+
+        -- a standard frame
+        module _ {i j : ℕ} (h : x ≡ Standard i j) where
+          pub standard-parted : Parted s m o f i j
+          standard-parted = parted (reads-standard g h)
+
+          pub standard-ran : (r : Answer) (m′ o′ : List ℕ) → outcome r m′ o′ ≡ runFrame s m o (frame (part i j f) (blocksAt f j)) →
+              outcome r m′ o′ ≡ run s m o f
+          standard-ran = answered (reads-standard g h)
+
+        -- a printable one
+        module _ {n i j : ℕ} (h : x ≡ Printable n i j) where
+          pub printable-parted : Parted s m o (take n after) i j
+          printable-parted = parted (reads-printable g h .stands)
+
+          pub printable-ran : (r : Answer) (m′ o′ : List ℕ) →
+              outcome r m′ o′ ≡ runFrame s m o (frame (part i j (take n after)) (blocksAt (take n after) j)) → outcome r m′ o′ ≡ run s m o f
+          printable-ran = answered (reads-printable g h .stands)
+
+pub ruleset answering = (run-unsound, run-short, run-refused, standard-parted, standard-ran, printable-parted, printable-ran, reads-within, reads-counts, needs)

@@ -1,0 +1,38 @@
+-- A run has one outcome, and so has the making of a fresh board; and what is computed of a run holds of whatever keeps its promise.
+use Prim.Native.Nat.{ℕ}
+use mathlib.Core.Path.{_≡_, sym, ap, _∙_}
+use mathlib.Core.List.{List}
+use Rattle.board.specs.declared.Settings.{Settings}
+use Rattle.sign.specs.Run.{Outcome, outcome, run}
+use Rattle.sign.specs.Fresh.{Making, making, fresh}
+use Rattle.sign.specs.Packing.{next}
+use Rattle.sign.specs.declared.Answer.{Answer}
+use Rattle.sign.specs.declared.Made.{Made}
+
+-- the parts of one outcome
+outcome-parts : {r r′ : Answer} {m m′ o o′ : List ℕ} → outcome r m o ≡ outcome r′ m′ o′ → (r ≡ r′) × (m ≡ m′) × (o ≡ o′)
+outcome-parts e = (ap (λ (x : Outcome). x .answer) e, ap (λ (x : Outcome). x .memory) e, ap (λ (x : Outcome). x .reply) e)
+
+making-parts : {r r′ : Made} {m m′ : List ℕ} → making r m ≡ making r′ m′ → (r ≡ r′) × (m ≡ m′)
+making-parts e = (ap (λ (x : Making). x .answer) e, ap (λ (x : Making). x .memory) e)
+
+module _ (s : Settings) (m o f : List ℕ) {r r′ : Answer} {a a′ b b′ : List ℕ} (p : outcome r a b ≡ run s m o f) where
+  -- whatever keeps the promise of `run` on an input: one answer, one memory, one reply buffer
+  pub run-unique : outcome r′ a′ b′ ≡ run s m o f → (r ≡ r′) × (a ≡ a′) × (b ≡ b′)
+  run-unique q = outcome-parts (p ∙ sym q)
+
+  -- on an example's input it has the example's values
+  pub run-promised : run s m o f ≡ outcome r′ a′ b′ → (r ≡ r′) × (a ≡ a′) × (b ≡ b′)
+  run-promised q = outcome-parts (p ∙ q)
+
+  -- a run on what it left is the next run
+  pub run-next : (g : List ℕ) → outcome r′ a′ b′ ≡ run (r .settings) a b g → outcome r′ a′ b′ ≡ next (run s m o f) g
+  run-next g q = q ∙ ap (λ (x : Outcome). next x g) p
+
+module _ (t : ℕ) (m : List ℕ) {r r′ : Made} {a a′ : List ℕ} (p : making r a ≡ fresh t m) where
+  -- whatever keeps the promise of `fresh`: one answer, one memory
+  pub fresh-unique : making r′ a′ ≡ fresh t m → (r ≡ r′) × (a ≡ a′)
+  fresh-unique q = making-parts (p ∙ sym q)
+
+  pub fresh-promised : fresh t m ≡ making r′ a′ → (r ≡ r′) × (a ≡ a′)
+  fresh-promised q = making-parts (p ∙ q)

@@ -1,0 +1,48 @@
+use Rattle.sign.proofs.Answering.{framing}
+use Rattle.sign.proofs.run.run_frame.Statement.{statement}
+use Rattle.sign.proofs.run.run_frame.Tie as tie
+
+sub-addressed : tie.Need-sub-addressed
+sub-addressed c = search framing
+
+part-addressed-start : tie.Need-part-addressed-start
+part-addressed-start c = search framing
+
+part-addressed-end : tie.Need-part-addressed-end
+part-addressed-end c = search framing
+
+addressed-requires : tie.Need-addressed-requires
+addressed-requires c κs = search framing
+
+untouched-requires : tie.Need-untouched-requires
+untouched-requires c κs = search framing
+
+returns : tie.Need-returns
+returns c = search framing
+
+run-blocks-requires : tie.Need-run-blocks-requires
+run-blocks-requires c κs = search framing
+
+same-length : tie.Need-same-length
+same-length c = search framing
+
+same-length-2 : tie.Need-same-length-2
+same-length-2 c = search framing
+
+returns-2 : tie.Need-returns-2
+returns-2 c = search framing
+
+pub run-frame-spec : {M : Type 1} → statement M
+run-frame-spec =
+    tie.close
+    (tie.spec
+    sub-addressed
+    part-addressed-start
+    part-addressed-end
+    addressed-requires
+    untouched-requires
+    returns
+    run-blocks-requires
+    same-length
+    same-length-2
+    returns-2)

@@ -1,0 +1,206 @@
+// Running one frame on a board: "1, 2, empty (3), first byte (4), raw length (3), 5, translated length (3), lead (4), 6, 7, 8, 9".
+use crate::Answer;
+use crate::Tally;
+use crate::numbers::NOT_ADDRESSED;
+use crate::numbers::NOT_SOUND;
+use crate::numbers::REPLY_TOO_SHORT;
+use board::Settings;
+use board::soundness::sound;
+use commands::blocks::run_block;
+use frame::BlockStep;
+use frame::Read;
+use frame::addressed;
+use frame::read;
+use frame::step_from;
+use octets::bytes::BLOCKS;
+ghost use mathlib.Core.Path.{_≡_};
+ghost use Prim.Native.Nat.{_+_, _<_};
+ghost use Rattle.octets.specs.Bytes.{BLOCKS};
+ghost use Rattle.body.specs.Body.{block};
+ghost use Rattle.body.specs.Steps.{part, blocksAt};
+ghost use Rattle.reading.specs.Reading.{frame};
+ghost use Rattle.commands.specs.Commands.{board};
+ghost use Rattle.commands.specs.Blocks.{runBlock};
+ghost use Rattle.sign.specs.Run.{nothing, count, measure, state, onto, runBlocks, outcome, runFrame, run};
+ghost use Rattle.sign.specs.Running.{answerAs, Runnable, Running, Parted, stateAs};
+
+// "a reply buffer": so much longer than memory
+const REPLY_ROOM: usize = 64;
+
+// The counts and the settings behind the blocks that were run.
+pub struct Ran {
+    pub tally: Tally,
+    pub settings: Settings,
+}
+
+impl Tally {
+    // "both 0 if none"
+    pub fn none() -> Tally
+        ensures { λ r. ⌜ r ≡ nothing ⌝ }
+    {
+        Tally {
+            done: 0,
+            refused: 0,
+            place: 0,
+            first: 0,
+            length: 0,
+        }
+    }
+
+    // One block more, of that number.
+    fn count(self, number: u8) -> Tally
+        requires { ⌜ self .done + self .refused < BLOCKS ⌝ }
+        ensures { λ r. ⌜ r ≡ count self number ⌝ }
+    {
+        if number == 0 {
+            return Tally {
+                done: self.done + 1,
+                refused: self.refused,
+                place: self.place,
+                first: self.first,
+                length: self.length,
+            };
+        }
+        if self.first == 0 {
+            return Tally {
+                done: self.done,
+                refused: self.refused + 1,
+                place: self.done + self.refused + 1,
+                first: number,
+                length: self.length,
+            };
+        }
+        Tally {
+            done: self.done,
+            refused: self.refused + 1,
+            place: self.place,
+            first: self.first,
+            length: self.length,
+        }
+    }
+
+    // A reply of that length, if there is one.
+    fn measure(self, n: usize) -> Tally
+        ensures { λ r. ⌜ r ≡ measure self n ⌝ }
+    {
+        if n == 0 {
+            return self;
+        }
+        Tally {
+            done: self.done,
+            refused: self.refused,
+            place: self.place,
+            first: self.first,
+            length: n,
+        }
+    }
+}
+
+// "1 to 9: board and buffers untouched, everything else returned is 0."
+fn untouched(s: Settings, number: u8) -> Answer
+    ensures { λ r. ⌜ r ≡ answerAs number nothing s ⌝ }
+{
+    Answer {
+        number,
+        tally: Tally::none(),
+        settings: s,
+    }
+}
+
+// One block, and the counts with it.
+fn run_one(ran: Ran, m: &mut [u8], command: u8, text: &[u8], right: bool, out: &mut [u8]) -> Ran
+    requires { ⌜ Runnable ran (now m) (now out) ⌝ }
+    ensures { λ r. ⌜ stateAs r (now (m .exit)) (now (out .exit)) ≡ onto (stateAs ran (now (m .entry)) (now (out .entry))) (runBlock (board (ran .settings) (now (m .entry))) (block command (now (text .entry)) right)) ⌝ }
+{
+    let settings = ran.settings;
+    let tally = ran.tally;
+    let done = run_block(settings, m, command, text, right, out);
+    let next = done.settings;
+    Ran {
+        tally: tally.count(done.number).measure(done.length),
+        settings: next,
+    }
+}
+
+// The blocks in order, taken by the reader; a refused block changes nothing, and the blocks behind it run.
+fn run_blocks(s: Settings, m: &mut [u8], out: &mut [u8], t: &[u8], from: usize) -> Ran
+    requires { ⌜ Running s (now m) (now out) (now t) from ⌝ }
+    ensures { λ r. ⌜ stateAs r (now (m .exit)) (now (out .exit)) ≡ runBlocks (state (board s (now (m .entry))) (now (out .entry)) nothing) (blocksAt (now (t .entry)) from) ⌝ }
+{
+    let mut at = from;
+    let mut left: usize = BLOCKS;
+    let mut ran = Ran {
+        tally: Tally::none(),
+        settings: s,
+    };
+    while 0 < left {
+        match step_from(t, at) {
+            BlockStep::Stray => return ran,
+            BlockStep::Last {
+                command,
+                from: i,
+                to: j,
+                right,
+            } => return run_one(ran, m, command, &t[i..j], right, out),
+            BlockStep::More {
+                command,
+                from: i,
+                to: j,
+                right,
+                next,
+            } => {
+                ran = run_one(ran, m, command, &t[i..j], right, out);
+                at = next;
+                left -= 1;
+            }
+        }
+    }
+    ran
+}
+
+// A frame that was read, on a sound board: 9, or its blocks.
+fn run_frame(
+    s: Settings,
+    m: &mut [u8],
+    out: &mut [u8],
+    t: &[u8],
+    header: usize,
+    from: usize,
+) -> Answer
+    requires { ⌜ Parted s (now m) (now out) (now t) header from ⌝ }
+    ensures { λ r. ⌜ outcome r (now (m .exit)) (now (out .exit)) ≡ runFrame s (now (m .entry)) (now (out .entry)) (frame (part header from (now (t .entry))) (blocksAt (now (t .entry)) from)) ⌝ }
+{
+    if !addressed(&t[header..from], s.own, s.address) {
+        return untouched(s, NOT_ADDRESSED);
+    }
+    let ran = run_blocks(s, m, out, t, from);
+    let tally = ran.tally;
+    let settings = ran.settings;
+    Answer {
+        number: 0,
+        tally,
+        settings,
+    }
+}
+
+// Running: a frame on a board, with a reply buffer.
+pub fn run(s: Settings, m: &mut [u8], out: &mut [u8], bytes: &[u8]) -> Answer
+    ensures { λ r. ⌜ outcome r (now (m .exit)) (now (out .exit)) ≡ run s (now (m .entry)) (now (out .entry)) (now (bytes .entry)) ⌝ }
+{
+    if !sound(s, m) {
+        return untouched(s, NOT_SOUND);
+    }
+    if out.len() < m.len() + REPLY_ROOM {
+        return untouched(s, REPLY_TOO_SHORT);
+    }
+    let mut room = [0u8; 8192];
+    match read(bytes, &mut room) {
+        Read::Refused(number) => untouched(s, number),
+        Read::Standard { header, body } => run_frame(s, m, out, bytes, header, body),
+        Read::Printable {
+            length,
+            header,
+            body,
+        } => run_frame(s, m, out, &room[..length], header, body),
+    }
+}

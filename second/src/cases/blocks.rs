@@ -1,0 +1,456 @@
+//! Blocks for the frames: commands that do things on a board, and commands
+//! that are refused for each of the reasons 20 to 27.
+
+use super::boards::{self, message, new_label};
+use super::dice::Dice;
+use crate::bytes::{
+    CONFIGURATION, DATE, LOWEST_DATA, POOL, READ_SPECIAL, READ_STRING, READ_TEXT, SERIAL_ADDRESS,
+    SPEAKER, TIME, TIME_FORMAT, WRITE_SPECIAL, WRITE_STRING, WRITE_TEXT,
+};
+use crate::hex::byte_digits;
+use crate::record::{Kind, Record};
+use crate::sum::checksum;
+
+/// How a block ends.
+#[derive(Clone, Copy, Debug, PartialEq, Eq)]
+pub enum End {
+    /// At EOT, without ETX.
+    Open,
+    /// ETX alone.
+    Bare,
+    /// ETX and these four digits' number.
+    Sum(u16),
+}
+
+/// A block to be sent.
+#[derive(Clone, Debug, PartialEq, Eq)]
+pub struct Plan {
+    pub command: u8,
+    pub data: Vec<u8>,
+    pub end: End,
+}
+
+impl Plan {
+    pub fn new(command: u8, data: Vec<u8>) -> Plan {
+        Plan {
+            command,
+            data,
+            end: End::Bare,
+        }
+    }
+
+    /// Gives the block its right checksum.
+    pub fn add_sum(&mut self) {
+        self.end = End::Sum(checksum(self.command, &self.data));
+    }
+
+    /// Gives the block a wrong checksum.
+    pub fn add_wrong_sum(&mut self, dice: &mut Dice) {
+        let right = checksum(self.command, &self.data);
+        let off = dice.one_of([1, 0xFFFF, 0x0100, 0x8000, 3]);
+        self.end = End::Sum(right.wrapping_add(off));
+    }
+}
+
+/// What is known of a board while blocks are planned for it.
+pub struct Sight {
+    pub records: Vec<Record>,
+    pub memory_length: usize,
+}
+
+/// Blocks for a board: most of them do something, some are refused.
+pub fn for_board(dice: &mut Dice, sight: &mut Sight, count: usize) -> Vec<Plan> {
+    let share = dice.one_of([0, 5, 15, 15, 40]);
+    let sums = dice.one_of([0, 0, 50, 100]);
+    let mut plans = Vec::new();
+    for place in 1..=count {
+        let is_last = place == count;
+        let mut plan = if dice.chance(share) {
+            refused(dice, sight, is_last)
+        } else {
+            done(dice, sight, is_last, place == 1)
+        };
+        if plan.end == End::Bare && dice.chance(sums) {
+            plan.add_sum();
+        }
+        if plan.end == End::Bare && is_last && dice.chance(70) {
+            plan.end = End::Open;
+        }
+        plans.push(plan);
+    }
+    plans
+}
+
+/// A block that the board does.
+fn done(dice: &mut Dice, sight: &mut Sight, is_last: bool, is_first: bool) -> Plan {
+    if is_first && dice.chance(30) {
+        return configuration(dice, sight);
+    }
+    if is_last && dice.chance(50) {
+        return read(dice, sight);
+    }
+    match dice.below(20) {
+        0..=10 => write(dice, sight),
+        11 | 12 => special(TIME, &decimal(dice, &[(0, 23), (0, 59)])),
+        13 => special(SPEAKER, &dice.one_of([*b"00", *b"FF"])),
+        14 => special(TIME_FORMAT, &dice.one_of([*b"S", *b"M"])),
+        15 | 16 => special(DATE, &decimal(dice, &[(1, 12), (1, 31), (0, 99)])),
+        17 => special(SERIAL_ADDRESS, &byte_digits(dice.byte(0, 255))),
+        _ => configuration(dice, sight),
+    }
+}
+
+fn special(label: u8, text: &[u8]) -> Plan {
+    let mut data = vec![label];
+    data.extend_from_slice(text);
+    Plan::new(WRITE_SPECIAL, data)
+}
+
+/// Numbers of two decimal digits, each in its range.
+fn decimal(dice: &mut Dice, ranges: &[(u8, u8)]) -> Vec<u8> {
+    ranges
+        .iter()
+        .flat_map(|&(low, high)| {
+            let middle = dice.byte(low, high);
+            let value = dice.one_of([low, high, middle, middle]);
+            [b'0' + value / 10, b'0' + value % 10]
+        })
+        .collect()
+}
+
+/// A message that fits into a file that exists; without files, the time.
+fn write(dice: &mut Dice, sight: &Sight) -> Plan {
+    let Some(record) = any_record(dice, sight) else {
+        return special(TIME, &decimal(dice, &[(0, 23), (0, 59)]));
+    };
+    let size = record.content_length();
+    let some = dice.below(size.min(40) + 1);
+    let length = match size {
+        0..=200 => dice.one_of([0, some, some, some, size]),
+        _ => some,
+    };
+    to_file(dice, record.kind, record.label, length)
+}
+
+fn to_file(dice: &mut Dice, kind: Kind, label: u8, length: usize) -> Plan {
+    let mut data = vec![label];
+    data.extend(message(dice, length));
+    Plan::new(write_code(kind), data)
+}
+
+fn write_code(kind: Kind) -> u8 {
+    match kind {
+        Kind::Text => WRITE_TEXT,
+        Kind::String => WRITE_STRING,
+    }
+}
+
+fn read_code(kind: Kind) -> u8 {
+    match kind {
+        Kind::Text => READ_TEXT,
+        Kind::String => READ_STRING,
+    }
+}
+
+fn any_record(dice: &mut Dice, sight: &Sight) -> Option<Record> {
+    sight.records.get(dice.below(sight.records.len())).copied()
+}
+
+/// A read of a file that exists or of a function.
+fn read(dice: &mut Dice, sight: &Sight) -> Plan {
+    match any_record(dice, sight) {
+        Some(record) if dice.chance(60) => Plan::new(read_code(record.kind), vec![record.label]),
+        _ => {
+            let label = dice.one_of([TIME, SPEAKER, TIME_FORMAT, DATE, CONFIGURATION, POOL, POOL]);
+            Plan::new(READ_SPECIAL, vec![label])
+        }
+    }
+}
+
+/// A "$" list that the board takes; what is known of the board follows it.
+fn configuration(dice: &mut Dice, sight: &mut Sight) -> Plan {
+    let mut records = boards::records(dice, sight.memory_length);
+    let used: usize = records.iter().map(|record| record.whole_length()).sum();
+    let takes_rest = dice.chance(25);
+    let mut list = list_of(&records);
+    if let Some(last) = records.last_mut() {
+        if takes_rest && last.kind == Kind::Text {
+            let rest = sight.memory_length - used + last.content_length();
+            last.size = 0;
+            list = list_of(&records);
+            if let Some(last) = records.last_mut() {
+                last.size = u16::try_from(rest).unwrap_or(u16::MAX);
+            }
+        }
+    }
+    sight.records = records;
+    special(CONFIGURATION, &list)
+}
+
+fn list_of(records: &[Record]) -> Vec<u8> {
+    records.iter().flat_map(|r| r.to_bytes()).collect()
+}
+
+/// A block that the board refuses, for one of the eight reasons.
+fn refused(dice: &mut Dice, sight: &mut Sight, is_last: bool) -> Plan {
+    match dice.between(20, 27) {
+        20 => wrong_sum(dice, sight, is_last),
+        21 => unknown(dice, is_last),
+        22 => malformed(dice, sight, is_last),
+        23 => no_file(dice, sight, is_last),
+        24 => too_long(dice, sight, is_last),
+        25 => bad_list(dice, sight),
+        26 => label_twice(dice, sight),
+        _ => no_room(dice, sight),
+    }
+}
+
+/// 20, over a block that would be done or refused.
+fn wrong_sum(dice: &mut Dice, sight: &Sight, is_last: bool) -> Plan {
+    let mut plan = match dice.below(6) {
+        0 => unknown(dice, is_last),
+        1 => malformed(dice, sight, is_last),
+        2 if is_last => read(dice, sight),
+        3 => special(TIME_FORMAT, b"M"),
+        _ => write(dice, sight),
+    };
+    plan.add_wrong_sum(dice);
+    plan
+}
+
+/// 21. A read that is not the last block would be 8 for the whole frame.
+fn unknown(dice: &mut Dice, is_last: bool) -> Plan {
+    let length = dice.below(6);
+    let rest = message(dice, length);
+    if is_last && dice.chance(50) {
+        let label = dice.one_of([b'&', b'7', b'"', b'%', b'A', LOWEST_DATA]);
+        let mut data = vec![label];
+        data.extend(rest);
+        let command = dice.one_of([READ_SPECIAL, READ_SPECIAL, b'J', b'N']);
+        return Plan::new(command, data);
+    }
+    if dice.chance(50) {
+        let label = dice.one_of([b'#', b'&', b'2', b'5', b'8', b'"', LOWEST_DATA, 0xFF]);
+        let mut data = vec![label];
+        data.extend(rest);
+        return Plan::new(WRITE_SPECIAL, data);
+    }
+    let command = dice.one_of([
+        LOWEST_DATA,
+        b'@',
+        b'C',
+        b'D',
+        b'I',
+        b'K',
+        b'M',
+        b'O',
+        b'a',
+        b'g',
+        0xFF,
+    ]);
+    Plan::new(command, rest)
+}
+
+/// 22.
+fn malformed(dice: &mut Dice, sight: &Sight, is_last: bool) -> Plan {
+    if is_last && dice.chance(40) {
+        let mut plan = read(dice, sight);
+        match dice.below(3) {
+            0 => plan.data.clear(),
+            _ => plan.data.push(dice.byte(LOWEST_DATA, 0xFF)),
+        }
+        return plan;
+    }
+    match dice.below(7) {
+        0 => Plan::new(
+            dice.one_of([WRITE_TEXT, WRITE_STRING, WRITE_SPECIAL]),
+            Vec::new(),
+        ),
+        1 => special(
+            TIME,
+            dice.one_of([
+                b"2400".as_slice(),
+                b"2360",
+                b"123",
+                b"12345",
+                b"12:0",
+                b"",
+                b"1 00",
+            ]),
+        ),
+        2 => special(
+            SPEAKER,
+            dice.one_of([b"0F".as_slice(), b"ff", b"0", b"000", b"01", b""]),
+        ),
+        3 => special(
+            TIME_FORMAT,
+            dice.one_of([b"s".as_slice(), b"m", b"", b"SS", b"T"]),
+        ),
+        4 => special(
+            DATE,
+            dice.one_of([
+                b"000100".as_slice(),
+                b"130100",
+                b"010000",
+                b"013200",
+                b"0101",
+                b"01010",
+                b"0101000",
+                b"01010A",
+            ]),
+        ),
+        _ => special(
+            SERIAL_ADDRESS,
+            dice.one_of([b"1".as_slice(), b"100", b"1g", b"1G", b"a1", b"?0", b""]),
+        ),
+    }
+}
+
+/// 23: a label that no file has, or that a file of the other type has.
+fn no_file(dice: &mut Dice, sight: &Sight, is_last: bool) -> Plan {
+    let kind = dice.one_of([Kind::Text, Kind::String]);
+    let free = new_label(dice, &sight.records);
+    let mut label = dice.one_of([free, free, b'0', b'?', LOWEST_DATA, 0x7F, 0xFF]);
+    if let Some(record) = any_record(dice, sight) {
+        if record.kind != kind && dice.chance(50) {
+            label = record.label;
+        }
+    }
+    if is_last && dice.chance(50) {
+        return Plan::new(read_code(kind), vec![label]);
+    }
+    let length = dice.below(12);
+    to_file(dice, kind, label, length)
+}
+
+/// 24: a message longer than the smallest file; without one, 23.
+fn too_long(dice: &mut Dice, sight: &Sight, is_last: bool) -> Plan {
+    let smallest = sight.records.iter().min_by_key(|record| record.size);
+    match smallest {
+        Some(record) if record.content_length() <= 200 => {
+            let more = dice.one_of([1, 1, 2, 9]);
+            let length = record.content_length() + more;
+            to_file(dice, record.kind, record.label, length)
+        }
+        _ => no_file(dice, sight, is_last),
+    }
+}
+
+/// 25: a list with one thing wrong in it.
+fn bad_list(dice: &mut Dice, sight: &Sight) -> Plan {
+    let mut list = list_of(&small_records(dice, sight));
+    match dice.below(16) {
+        0 => list.truncate(list.len().saturating_sub(1)),
+        1 => list.push(b'0'),
+        2 => list.extend(b"XBL00000000"),
+        3 => list.extend(b"XBL007E0000"),
+        4 => list.extend(b"XAU0000FF00YAU0001FF00"),
+        5 => list.extend(b"XAU0001FC00"),
+        6 => list.extend(b"XAU0001FF90"),
+        7 => list.extend(b"XAU0001ff00"),
+        8 => list.extend(b"XAU000aFF00"),
+        9 => list.extend(b"XBL00010100"),
+        10 => list.extend(b"mDU073C1000"),
+        11 => list.extend(b"0AU0001FF00"),
+        12 => list.extend(b"?AU0001FF00"),
+        13 => list.extend(b"XAX0001FF00"),
+        14 if dice.chance(30) => list = b"AAU0001FF00".repeat(65),
+        _ => {
+            list.extend(b"XAU0001FF00");
+            let last = list.len() - dice.between(1, 11);
+            list[last] = dice.one_of([b'G', b'g', LOWEST_DATA, 0xFF]);
+        }
+    }
+    special(CONFIGURATION, &list)
+}
+
+/// 26: the first label again, of the same type or of the other.
+fn label_twice(dice: &mut Dice, sight: &Sight) -> Plan {
+    let mut records = small_records(dice, sight);
+    let mut again = records[0];
+    if dice.chance(50) {
+        again.kind = Kind::String;
+        again.size = 1;
+        again.start = 0;
+        again.stop = 0;
+    }
+    records.push(again);
+    special(CONFIGURATION, &list_of(&records))
+}
+
+/// 27: a size that is just too large, or a last TEXT with nothing left.
+fn no_room(dice: &mut Dice, sight: &Sight) -> Plan {
+    let mut record = small_records(dice, sight)[0];
+    record.kind = Kind::Text;
+    record.start = start_for_text(dice);
+    let room = sight.memory_length - 11;
+    if dice.chance(30) && room > 11 {
+        let mut rest = record;
+        record.size = u16::try_from(room - 11).unwrap_or(1);
+        rest.label = new_label(dice, &[record]);
+        rest.size = 0;
+        return special(CONFIGURATION, &list_of(&[record, rest]));
+    }
+    let more = dice.one_of([1, 1, 100, 0x7000]);
+    record.size = u16::try_from(room + more).unwrap_or(u16::MAX);
+    special(CONFIGURATION, &list_of(&[record]))
+}
+
+fn start_for_text(dice: &mut Dice) -> u8 {
+    dice.one_of([0x00, 0x8F, 0xFD, 0xFE, 0xFF])
+}
+
+/// One to three records that fit; at least one.
+fn small_records(dice: &mut Dice, sight: &Sight) -> Vec<Record> {
+    let mut records = boards::records(dice, sight.memory_length);
+    records.truncate(3);
+    if records.is_empty() {
+        records.push(Record {
+            label: b'A',
+            kind: Kind::Text,
+            locked: false,
+            size: 1,
+            start: 0xFF,
+            stop: 0,
+        });
+    }
+    records
+}
+
+/// Blocks for a frame that no board has to run: any command and any data.
+pub fn for_anybody(dice: &mut Dice, count: usize, may_end_with_read: bool) -> Vec<Plan> {
+    let sums = dice.one_of([0, 50, 100]);
+    let longest = if count > 8 { 6 } else { 30 };
+    let mut plans = Vec::new();
+    for place in 1..=count {
+        let is_last = place == count;
+        let length = dice.below(longest);
+        let data = message(dice, length);
+        let mut plan = Plan::new(any_writer(dice), data);
+        if is_last && may_end_with_read && dice.chance(30) {
+            plan.command = dice.one_of([READ_TEXT, READ_SPECIAL, READ_STRING, b'J', b'N']);
+        }
+        if dice.chance(sums) {
+            plan.add_sum();
+        } else if is_last && dice.chance(70) {
+            plan.end = End::Open;
+        }
+        plans.push(plan);
+    }
+    plans
+}
+
+/// A command byte that is no read.
+fn any_writer(dice: &mut Dice) -> u8 {
+    let low = dice.byte(LOWEST_DATA, b'@');
+    let high = dice.byte(b'O', 0xFF);
+    dice.one_of([
+        WRITE_TEXT,
+        WRITE_TEXT,
+        WRITE_STRING,
+        WRITE_SPECIAL,
+        b'I',
+        low,
+        high,
+    ])
+}

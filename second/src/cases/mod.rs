@@ -1,0 +1,312 @@
+//! Random cases for the stream, the same from the same seed everywhere.
+
+pub mod blocks;
+pub mod boards;
+pub mod dice;
+pub mod frames;
+
+use std::io::{self, Write};
+
+use self::blocks::{Plan, Sight};
+use self::dice::Dice;
+use self::frames::Sketch;
+use crate::body::MOST_BLOCKS;
+use crate::bytes::LOWEST_DATA;
+use crate::forms::Written;
+use crate::joining::join;
+use crate::reforming::reform;
+use crate::run::REPLY_MARGIN;
+use crate::soundness::{LEAST_MEMORY, MOST_MEMORY};
+use crate::stream::{Case, CALLS, FRESH_CALL, JOIN_CALL, REFORM_CALL, RUN_CALL, WRITE_CALL};
+use crate::translation::{MOST_PRINTABLE, MOST_TRANSLATED};
+use crate::writing::write;
+
+/// How often each call is made, in the order of [`CALLS`].
+const WEIGHTS: [usize; 5] = [8, 40, 14, 20, 18];
+
+/// Writes so many cases, of these calls only.
+pub fn write_cases(
+    output: &mut impl Write,
+    seed: u64,
+    count: usize,
+    calls: &[u8],
+) -> io::Result<()> {
+    let mut dice = Dice::new(seed);
+    for _ in 0..count {
+        if let Some(case) = any_case(&mut dice, calls) {
+            output.write_all(&case.encode())?;
+        }
+    }
+    output.flush()
+}
+
+/// A case of one of these calls; none where there is no call to choose.
+pub fn any_case(dice: &mut Dice, calls: &[u8]) -> Option<Case> {
+    match any_call(dice, calls)? {
+        FRESH_CALL => Some(fresh_case(dice)),
+        RUN_CALL => Some(run_case(dice)),
+        WRITE_CALL => Some(write_case(dice)),
+        REFORM_CALL => Some(reform_case(dice)),
+        JOIN_CALL => Some(join_case(dice)),
+        _ => None,
+    }
+}
+
+fn any_call(dice: &mut Dice, calls: &[u8]) -> Option<u8> {
+    let choices: Vec<(u8, usize)> = CALLS
+        .into_iter()
+        .zip(WEIGHTS)
+        .filter(|(call, _)| calls.contains(call))
+        .collect();
+    let whole = choices.iter().map(|(_, weight)| weight).sum();
+    let mut left = dice.below(whole);
+    for (call, weight) in choices {
+        if left < weight {
+            return Some(call);
+        }
+        left -= weight;
+    }
+    None
+}
+
+/// Any type, good most times, and memory of any length.
+fn fresh_case(dice: &mut Dice) -> Case {
+    let any = dice.byte(0, 255);
+    let own_type = if dice.chance(75) {
+        boards::own_type(dice)
+    } else {
+        dice.one_of([
+            b'Z', b'z', b'!', b'?', b'0', 0x22, 0x27, 0x60, 0x73, 0x76, 0, any,
+        ])
+    };
+    let length = match dice.below(60) {
+        0..=4 => LEAST_MEMORY - 1,
+        5..=8 => dice.below(LEAST_MEMORY),
+        9..=12 => dice.between(LEAST_MEMORY, LEAST_MEMORY + 1),
+        13 => dice.one_of([MOST_MEMORY - 1, MOST_MEMORY, MOST_MEMORY + 1]),
+        _ => boards::memory_length(dice),
+    };
+    Case::Fresh {
+        own_type,
+        memory: filler(dice, length),
+    }
+}
+
+/// A run: most times on a sound board that the frame reaches.
+fn run_case(dice: &mut Dice) -> Case {
+    if dice.chance(66) {
+        return good_run(dice);
+    }
+    let mut board = boards::sound(dice);
+    let count = dice.between(1, 4);
+    let mut sketch = sketch_for(dice, &board, count);
+    if dice.chance(30) {
+        boards::damage(dice, &mut board);
+    }
+    let short_by = match dice.below(10) {
+        0 => 1,
+        1 => dice.between(1, REPLY_MARGIN),
+        _ => 0,
+    };
+    if dice.chance(15) {
+        sketch.header = frames::missing_header(dice, board.settings);
+    }
+    let frame = if dice.chance(55) {
+        frames::with_fault(dice, &sketch)
+    } else {
+        sketch.sent(dice)
+    };
+    let length = (board.memory.len() + REPLY_MARGIN).saturating_sub(short_by);
+    Case::Run {
+        settings: board.settings,
+        reply: filler(dice, length),
+        memory: board.memory,
+        frame,
+    }
+}
+
+/// A run on a sound, addressed board of a frame of 2 to 64 blocks.
+fn good_run(dice: &mut Dice) -> Case {
+    let board = boards::sound(dice);
+    let count = match dice.below(40) {
+        0..=30 => dice.between(2, 8),
+        31..=37 => dice.between(9, 30),
+        38 => dice.between(31, MOST_BLOCKS),
+        _ => MOST_BLOCKS,
+    };
+    let sketch = sketch_for(dice, &board, count);
+    let more = dice.one_of([0, 0, 0, 1, 16]);
+    Case::Run {
+        settings: board.settings,
+        reply: filler(dice, board.memory.len() + REPLY_MARGIN + more),
+        memory: board.memory,
+        frame: sketch.sent(dice),
+    }
+}
+
+/// A good frame for the board.
+fn sketch_for(dice: &mut Dice, board: &boards::Board, count: usize) -> Sketch {
+    let mut sight = Sight {
+        records: board.records.clone(),
+        memory_length: board.memory.len(),
+    };
+    let plans = blocks::for_board(dice, &mut sight, count);
+    let header = frames::reaching_header(dice, board.settings);
+    Sketch::new(dice, header, plans)
+}
+
+/// A write: faults one by one and together.
+fn write_case(dice: &mut Dice) -> Case {
+    let form = any_form(dice);
+    let header = if dice.chance(12) {
+        frames::bad_header(dice)
+    } else {
+        frames::good_header(dice)
+    };
+    let command = match dice.below(20) {
+        0 => dice.byte(0, LOWEST_DATA - 1),
+        1..=5 => dice.byte(LOWEST_DATA, 0xFF),
+        _ => dice.one_of(*b"ABEFGHIJMNO"),
+    };
+    let length = match dice.below(100) {
+        0..=5 => edge_length(dice, header.len() + 9),
+        _ => dice.below(60),
+    };
+    let mut data = boards::message(dice, length);
+    if dice.chance(8) {
+        let place = dice.below(data.len() + 1);
+        data.insert(place, dice.one_of([0, 1, 2, 3, 4, 5]));
+    }
+    let output = output(dice, |scratch| {
+        write(form, &header, command, &data, scratch)
+    });
+    Case::Write {
+        form,
+        header,
+        command,
+        data,
+        output,
+    }
+}
+
+/// A length of data that brings the result near 8,192 translated bytes.
+fn edge_length(dice: &mut Dice, overhead: usize) -> usize {
+    let off = dice.between(0, 12);
+    (MOST_TRANSLATED + 6).saturating_sub(overhead + off)
+}
+
+fn reform_case(dice: &mut Dice) -> Case {
+    let form = any_form(dice);
+    let mut sketch = any_sketch(dice, true);
+    let is_long = dice.chance(4);
+    if is_long {
+        let target = MOST_TRANSLATED - dice.between(0, 8);
+        sketch.grow_to(dice, target);
+    }
+    let frame = sent_or_faulty(dice, sketch, if is_long { 5 } else { 45 });
+    let output = output(dice, |scratch| reform(form, &frame, scratch));
+    Case::Reform {
+        form,
+        frame,
+        output,
+    }
+}
+
+fn join_case(dice: &mut Dice) -> Case {
+    let form = any_form(dice);
+    let first_may_read = dice.chance(25);
+    let mut first = any_sketch(dice, first_may_read);
+    let mut second = any_sketch(dice, true);
+    if !dice.chance(12) {
+        second.header = first.header.clone();
+    }
+    match dice.below(40) {
+        0..=3 => crowd(dice, &mut first, &mut second),
+        4 => {
+            let target = dice.between(4_080, 4_110);
+            first.grow_to(dice, target);
+            second.grow_to(dice, MOST_TRANSLATED + 10 - target);
+        }
+        _ => {}
+    }
+    let first = sent_or_faulty(dice, first, 22);
+    let second = sent_or_faulty(dice, second, 28);
+    let output = output(dice, |scratch| join(form, &first, &second, scratch));
+    Case::Join {
+        form,
+        first,
+        second,
+        output,
+    }
+}
+
+/// Two frames that have together 64 blocks, or one more or less.
+fn crowd(dice: &mut Dice, first: &mut Sketch, second: &mut Sketch) {
+    let total = dice.between(MOST_BLOCKS - 1, MOST_BLOCKS + 1);
+    let some = dice.between(1, MOST_BLOCKS - 2);
+    first.plans = blocks::for_anybody(dice, some, false);
+    second.plans = blocks::for_anybody(dice, total - some, true);
+}
+
+/// A frame for nobody in particular.
+fn any_sketch(dice: &mut Dice, may_end_with_read: bool) -> Sketch {
+    let count = match dice.below(20) {
+        0..=7 => 1,
+        8..=17 => dice.between(2, 5),
+        18 => dice.between(6, 20),
+        _ => dice.between(60, MOST_BLOCKS),
+    };
+    let header = frames::good_header(dice);
+    let plans = blocks::for_anybody(dice, count, may_end_with_read);
+    Sketch::new(dice, header, plans)
+}
+
+/// The frame as sent, with a wrong sum or with another fault in so many of a
+/// hundred.
+fn sent_or_faulty(dice: &mut Dice, mut sketch: Sketch, percent: usize) -> Vec<u8> {
+    if dice.chance(percent / 5) {
+        wrong_a_sum(dice, &mut sketch.plans);
+    }
+    if dice.chance(percent * 4 / 5) {
+        frames::with_fault(dice, &sketch)
+    } else {
+        sketch.sent(dice)
+    }
+}
+
+fn wrong_a_sum(dice: &mut Dice, plans: &mut [Plan]) {
+    let place = dice.below(plans.len());
+    if let Some(plan) = plans.get_mut(place) {
+        plan.add_wrong_sum(dice);
+    }
+}
+
+/// Mostly 1, 2 or 3.
+fn any_form(dice: &mut Dice) -> u8 {
+    match dice.below(25) {
+        0 => dice.one_of([0, 4, 255]),
+        _ => dice.byte(1, 3),
+    }
+}
+
+/// An output buffer for the call: just long enough, one byte short, longer, or
+/// of no use.
+fn output(dice: &mut Dice, call: impl Fn(&mut [u8]) -> Written) -> Vec<u8> {
+    let mut scratch = vec![0; MOST_PRINTABLE];
+    let needed = call(&mut scratch).length;
+    let length = match dice.below(20) {
+        0..=6 => needed,
+        7..=9 => needed.saturating_sub(1),
+        10 => dice.below(needed + 1),
+        11 => 0,
+        _ => needed + dice.between(1, 20),
+    };
+    filler(dice, length)
+}
+
+/// A buffer's contents before the call: one byte over and over.
+fn filler(dice: &mut Dice, length: usize) -> Vec<u8> {
+    let any = dice.byte(0, 255);
+    let byte = dice.one_of([0x00, 0xAA, 0xFF, any]);
+    vec![byte; length]
+}

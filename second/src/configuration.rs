@@ -1,0 +1,82 @@
+//! "E "$": a list of 0 to 64 records replaces all files, contents empty."
+
+use crate::bytes::NUL;
+use crate::files::MOST_FILES;
+use crate::hex::frame_digit;
+use crate::numbers::{Number, BAD_LIST, LABEL_TWICE, NO_ROOM};
+use crate::record::{labels_are_distinct, Kind, Record, RECORD_LENGTH};
+
+/// Replaces all files and gives their new number. "faults in a "$" list are
+/// 25 to 27, never 22".
+pub fn configure(list: &[u8], memory: &mut [u8]) -> Result<u8, Number> {
+    let mut records = records(list)?;
+    let count = u8::try_from(records.len()).map_err(|_| BAD_LIST)?;
+    check_labels(&records)?;
+    give_room(&mut records, memory.len())?;
+    lay_out(&records, memory);
+    Ok(count)
+}
+
+/// ""$": bad record, count or length" (25).
+fn records(list: &[u8]) -> Result<Vec<Record>, Number> {
+    let pieces = list.chunks_exact(RECORD_LENGTH);
+    if !pieces.remainder().is_empty() || pieces.len() > MOST_FILES {
+        return Err(BAD_LIST);
+    }
+    let last = pieces.len().saturating_sub(1);
+    pieces
+        .enumerate()
+        .map(|(place, bytes)| record(bytes, place == last).ok_or(BAD_LIST))
+        .collect()
+}
+
+/// "SIZE 0000 is allowed only in a last TEXT record".
+fn record(bytes: &[u8], is_last: bool) -> Option<Record> {
+    let bytes = <[u8; RECORD_LENGTH]>::try_from(bytes).ok()?;
+    let record = Record::parse(bytes, frame_digit)?;
+    let takes_rest = is_last && record.kind == Kind::Text;
+    (record.size != 0 || takes_rest).then_some(record)
+}
+
+/// "label twice" (26).
+fn check_labels(records: &[Record]) -> Result<(), Number> {
+    if labels_are_distinct(records) {
+        Ok(())
+    } else {
+        Err(LABEL_TWICE)
+    }
+}
+
+/// "Sizes plus 11 for each must not exceed memory"; a SIZE of 0000 "takes what
+/// remains after its own 11 bytes, at least 1, and the record is stored with
+/// that size" (27).
+fn give_room(records: &mut [Record], memory_length: usize) -> Result<(), Number> {
+    let asked: usize = records.iter().map(|record| record.whole_length()).sum();
+    let remains = memory_length.checked_sub(asked).ok_or(NO_ROOM)?;
+    if let Some(last) = records.last_mut() {
+        if last.size == 0 {
+            last.size = rest_size(remains)?;
+        }
+    }
+    Ok(())
+}
+
+/// "what remains after its own 11 bytes, at least 1".
+fn rest_size(remains: usize) -> Result<u16, Number> {
+    match u16::try_from(remains) {
+        Ok(0) | Err(_) => Err(NO_ROOM),
+        Ok(size) => Ok(size),
+    }
+}
+
+/// "replaces all files, contents empty"; "Unused memory stays unused."
+fn lay_out(records: &[Record], memory: &mut [u8]) {
+    memory.fill(NUL);
+    let mut place = 0;
+    for record in records {
+        if let Some(bytes) = memory.get_mut(place..place + RECORD_LENGTH) {
+            bytes.copy_from_slice(&record.to_bytes());
+        }
+        place += record.whole_length();
+    }
+}

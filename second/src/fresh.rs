@@ -1,0 +1,43 @@
+//! A fresh board. "Fresh: 10, 11."
+
+use crate::bytes::NUL;
+use crate::header::is_own_type;
+use crate::numbers::{Number, DONE, WRONG_MEMORY, WRONG_TYPE};
+use crate::settings::Settings;
+use crate::soundness::is_memory_length;
+
+/// What making a fresh board returns.
+#[derive(Clone, Copy, Debug, PartialEq, Eq)]
+pub struct Made {
+    pub number: Number,
+    pub settings: Settings,
+}
+
+/// Makes a fresh board: "memory all zero". "10 to 18: output and memory
+/// untouched, length 0, settings from 10 or 11 all zero."
+pub fn fresh(own_type: u8, memory: &mut [u8]) -> Made {
+    match check(own_type, memory) {
+        Ok(()) => {
+            memory.fill(NUL);
+            Made {
+                number: DONE,
+                settings: Settings::fresh(own_type),
+            }
+        }
+        Err(number) => Made {
+            number,
+            settings: Settings::default(),
+        },
+    }
+}
+
+/// "fresh board: wrong type; wrong memory length".
+fn check(own_type: u8, memory: &[u8]) -> Result<(), Number> {
+    if !is_own_type(own_type) {
+        return Err(WRONG_TYPE);
+    }
+    if !is_memory_length(memory.len()) {
+        return Err(WRONG_MEMORY);
+    }
+    Ok(())
+}

@@ -1,0 +1,44 @@
+//! Joining two frames. "Joining: 15, the first input's 3 to 8 and 17, the
+//! second's, 12, 13, 18, 14."
+
+use crate::body::has_read;
+use crate::forms::{form_of, put, written, Written};
+use crate::frame::{self, Frame};
+use crate::numbers::{Number, FIRST_HAS_READ, HEADERS_DIFFER};
+use crate::translation::translate;
+
+/// "Joining puts the second frame's blocks after the first's under the common
+/// header."
+pub fn join(form: u8, first: &[u8], second: &[u8], output: &mut [u8]) -> Written {
+    written(try_join(form, first, second, output))
+}
+
+fn try_join(form: u8, first: &[u8], second: &[u8], output: &mut [u8]) -> Result<usize, Number> {
+    let form = form_of(form)?;
+    let translated_first = translate(first)?;
+    let first = frame::read(&translated_first)?;
+    frame::check_sums(&first)?;
+    let translated_second = translate(second)?;
+    let second = frame::read(&translated_second)?;
+    frame::check_sums(&second)?;
+    check_headers(&first, &second)?;
+    check_first(&first)?;
+    let blocks = [first.blocks, second.blocks].concat();
+    put(form, first.header, &blocks, output)
+}
+
+/// "join: header texts differ".
+fn check_headers(first: &Frame<'_>, second: &Frame<'_>) -> Result<(), Number> {
+    if first.header != second.header {
+        return Err(HEADERS_DIFFER);
+    }
+    Ok(())
+}
+
+/// "first frame has a read".
+fn check_first(first: &Frame<'_>) -> Result<(), Number> {
+    if has_read(&first.blocks) {
+        return Err(FIRST_HAS_READ);
+    }
+    Ok(())
+}

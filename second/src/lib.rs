@@ -1,0 +1,38 @@
+//! A second implementation of the sign board of document 01, written from
+//! that document alone, to be compared case by case with another one.
+//!
+//! The frame layer: [`translation`], [`lead`], [`header`], [`body`], [`sum`],
+//! [`frame`], [`forms`], [`writing`], [`reforming`], [`joining`].
+//! The sign layer: [`settings`], [`record`], [`files`], [`soundness`],
+//! [`configuration`], [`special`], [`commands`], [`reply`], [`run`], [`fresh`].
+//! The comparison: [`stream`], [`cases`], [`source`], [`stored`], [`twelve`].
+#![forbid(unsafe_code)]
+
+pub mod body;
+pub mod bytes;
+pub mod cases;
+pub mod commands;
+pub mod configuration;
+pub mod files;
+pub mod forms;
+pub mod frame;
+pub mod fresh;
+pub mod header;
+pub mod hex;
+pub mod joining;
+pub mod lead;
+pub mod numbers;
+pub mod record;
+pub mod reforming;
+pub mod reply;
+pub mod run;
+pub mod settings;
+pub mod soundness;
+pub mod source;
+pub mod special;
+pub mod stored;
+pub mod stream;
+pub mod sum;
+pub mod translation;
+pub mod twelve;
+pub mod writing;

@@ -1,0 +1,205 @@
+//! "Settings travel as one record, handed in and handed back: time, date, time
+//! format, speaker, serial address, own type, number of files."
+
+use crate::hex::{byte_value, frame_digit};
+
+pub const STANDARD_FORMAT: u8 = b'S';
+pub const MILITARY_FORMAT: u8 = b'M';
+pub const SPEAKER_OFF: u8 = 0;
+pub const SPEAKER_ON: u8 = 1;
+
+/// The two texts of "!": ""00" speaker on, "FF" off".
+const ON_TEXT: [u8; 2] = *b"00";
+const OFF_TEXT: [u8; 2] = *b"FF";
+
+/// How many fields the record has.
+pub const FIELDS: usize = 10;
+
+/// The record, a number to a field, so that a field can be out of range.
+#[derive(Clone, Copy, Debug, Default, PartialEq, Eq)]
+pub struct Settings {
+    pub hour: u8,
+    pub minute: u8,
+    pub month: u8,
+    pub day: u8,
+    pub year: u8,
+    pub format: u8,
+    pub speaker: u8,
+    pub address: u8,
+    pub own_type: u8,
+    pub files: u8,
+}
+
+impl Settings {
+    /// "A fresh board has 00:00, 01 01 00, format S, speaker off, address 00,
+    /// no files".
+    pub fn fresh(own_type: u8) -> Settings {
+        Settings {
+            hour: 0,
+            minute: 0,
+            month: 1,
+            day: 1,
+            year: 0,
+            format: STANDARD_FORMAT,
+            speaker: SPEAKER_OFF,
+            address: 0,
+            own_type,
+            files: 0,
+        }
+    }
+
+    /// The fields in the record's order.
+    pub fn fields(self) -> [u8; FIELDS] {
+        [
+            self.hour,
+            self.minute,
+            self.month,
+            self.day,
+            self.year,
+            self.format,
+            self.speaker,
+            self.address,
+            self.own_type,
+            self.files,
+        ]
+    }
+
+    /// The record of these fields.
+    pub fn from_fields(fields: [u8; FIELDS]) -> Settings {
+        let [hour, minute, month, day, year, format, speaker, address, own_type, files] = fields;
+        Settings {
+            hour,
+            minute,
+            month,
+            day,
+            year,
+            format,
+            speaker,
+            address,
+            own_type,
+            files,
+        }
+    }
+
+    /// "E: label 20H, four digits HhMm, 00:00 to 23:59."
+    pub fn with_time(self, data: &[u8]) -> Option<Settings> {
+        let [hour, minute] = decimal_pairs(data)?;
+        is_time(hour, minute).then_some(Settings {
+            hour,
+            minute,
+            ..self
+        })
+    }
+
+    /// "";": six digits MmDdYy, month 01 to 12, day 01 to 31."
+    pub fn with_date(self, data: &[u8]) -> Option<Settings> {
+        let [month, day, year] = decimal_pairs(data)?;
+        is_date(month, day, year).then_some(Settings {
+            month,
+            day,
+            year,
+            ..self
+        })
+    }
+
+    /// ""!": "00" speaker on, "FF" off."
+    pub fn with_speaker(self, data: &[u8]) -> Option<Settings> {
+        let speaker = if data == ON_TEXT {
+            SPEAKER_ON
+        } else if data == OFF_TEXT {
+            SPEAKER_OFF
+        } else {
+            return None;
+        };
+        Some(Settings { speaker, ..self })
+    }
+
+    /// ""'": "S" or "M"."
+    pub fn with_format(self, data: &[u8]) -> Option<Settings> {
+        match data {
+            [format] if is_format(*format) => Some(Settings {
+                format: *format,
+                ..self
+            }),
+            _ => None,
+        }
+    }
+
+    /// ""7": two hex digits, the serial address from the next frame on."
+    pub fn with_address(self, data: &[u8]) -> Option<Settings> {
+        let digits = <[u8; 2]>::try_from(data).ok()?;
+        let address = byte_value(digits, frame_digit)?;
+        Some(Settings { address, ..self })
+    }
+
+    /// The time in the layout "HhMm".
+    pub fn time_text(self) -> Vec<u8> {
+        decimal_text(&[self.hour, self.minute])
+    }
+
+    /// The date in the layout "MmDdYy".
+    pub fn date_text(self) -> Vec<u8> {
+        decimal_text(&[self.month, self.day, self.year])
+    }
+
+    /// The speaker in the layout of "!".
+    pub fn speaker_text(self) -> Vec<u8> {
+        match self.speaker {
+            SPEAKER_ON => ON_TEXT.to_vec(),
+            _ => OFF_TEXT.to_vec(),
+        }
+    }
+
+    /// The time format in the layout of "'".
+    pub fn format_text(self) -> Vec<u8> {
+        vec![self.format]
+    }
+}
+
+/// "00:00 to 23:59".
+pub fn is_time(hour: u8, minute: u8) -> bool {
+    hour <= 23 && minute <= 59
+}
+
+/// "month 01 to 12, day 01 to 31", and a year of two digits.
+pub fn is_date(month: u8, day: u8, year: u8) -> bool {
+    (1..=12).contains(&month) && (1..=31).contains(&day) && year <= 99
+}
+
+/// ""S" or "M"".
+pub fn is_format(format: u8) -> bool {
+    format == STANDARD_FORMAT || format == MILITARY_FORMAT
+}
+
+/// Speaker on or off.
+pub fn is_speaker(speaker: u8) -> bool {
+    speaker == SPEAKER_OFF || speaker == SPEAKER_ON
+}
+
+/// Exactly N numbers of two decimal digits each.
+fn decimal_pairs<const N: usize>(data: &[u8]) -> Option<[u8; N]> {
+    if data.len() != 2 * N {
+        return None;
+    }
+    let mut values = [0; N];
+    for (value, digits) in values.iter_mut().zip(data.chunks_exact(2)) {
+        *value = decimal_value(digits)?;
+    }
+    Some(values)
+}
+
+/// The value of two decimal digits.
+fn decimal_value(digits: &[u8]) -> Option<u8> {
+    match digits {
+        [tens @ b'0'..=b'9', ones @ b'0'..=b'9'] => Some((tens - b'0') * 10 + (ones - b'0')),
+        _ => None,
+    }
+}
+
+/// Numbers below 100 as two decimal digits each.
+fn decimal_text(values: &[u8]) -> Vec<u8> {
+    values
+        .iter()
+        .flat_map(|value| [b'0' + value / 10 % 10, b'0' + value % 10])
+        .collect()
+}

@@ -1,0 +1,57 @@
+//! "A board is sound when all this holds and time, date, speaker, format, type
+//! are in range. Any address 00 to FF is in range."
+
+use crate::bytes::{LOWEST_DATA, NUL};
+use crate::files::{walk, File, MOST_FILES};
+use crate::header::is_own_type;
+use crate::record::{labels_are_distinct, Record};
+use crate::settings::{is_date, is_format, is_speaker, is_time, Settings};
+
+/// "Memory is 64 to 32,768 bytes."
+pub const LEAST_MEMORY: usize = 64;
+pub const MOST_MEMORY: usize = 32_768;
+
+/// Whether settings and memory together are a sound board.
+pub fn is_sound(settings: Settings, memory: &[u8]) -> bool {
+    settings_are_in_range(settings)
+        && is_memory_length(memory.len())
+        && files_are_sound(memory, settings.files)
+}
+
+/// "Memory is 64 to 32,768 bytes."
+pub fn is_memory_length(length: usize) -> bool {
+    (LEAST_MEMORY..=MOST_MEMORY).contains(&length)
+}
+
+/// "time, date, speaker, format, type are in range"; "It holds 0 to 64 files".
+fn settings_are_in_range(settings: Settings) -> bool {
+    is_time(settings.hour, settings.minute)
+        && is_date(settings.month, settings.day, settings.year)
+        && is_format(settings.format)
+        && is_speaker(settings.speaker)
+        && is_own_type(settings.own_type)
+        && usize::from(settings.files) <= MOST_FILES
+}
+
+/// "in order without gaps"; "Labels are distinct"; "Memory after the last file
+/// is 00H."
+fn files_are_sound(memory: &[u8], count: u8) -> bool {
+    let Some((files, end)) = walk(memory, count) else {
+        return false;
+    };
+    let records: Vec<Record> = files.iter().map(|file| file.record).collect();
+    labels_are_distinct(&records)
+        && files.iter().all(|file| content_is_sound(memory, file))
+        && all_zero(memory.get(end..).unwrap_or_default())
+}
+
+/// "Content is zero or more bytes 05H to FFH, then 00H up to SIZE."
+fn content_is_sound(memory: &[u8], file: &File) -> bool {
+    let content = memory.get(file.content.clone()).unwrap_or_default();
+    let length = content.iter().take_while(|&&b| b >= LOWEST_DATA).count();
+    all_zero(content.split_at(length).1)
+}
+
+fn all_zero(bytes: &[u8]) -> bool {
+    bytes.iter().all(|&byte| byte == NUL)
+}

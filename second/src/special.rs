@@ -1,0 +1,67 @@
+//! The special functions: "E" sets them, "F" reads them.
+
+use crate::bytes::{
+    COMMA, CONFIGURATION, DATE, POOL, SERIAL_ADDRESS, SPEAKER, TIME, TIME_FORMAT, WRITE_SPECIAL,
+};
+use crate::commands::Board;
+use crate::configuration::configure;
+use crate::files::{records_text, unused};
+use crate::hex::word_digits;
+use crate::numbers::{Number, MALFORMED, UNKNOWN};
+use crate::reply::reply;
+use crate::settings::Settings;
+
+/// "E": a label and its data. "a known command without its label is 22"; a
+/// label not listed is 21, whatever follows it.
+pub fn set(board: &mut Board<'_>, data: &[u8]) -> Result<(), Number> {
+    let (&label, rest) = data.split_first().ok_or(MALFORMED)?;
+    let settings = board.settings;
+    board.settings = match label {
+        TIME => settings.with_time(rest).ok_or(MALFORMED)?,
+        SPEAKER => settings.with_speaker(rest).ok_or(MALFORMED)?,
+        TIME_FORMAT => settings.with_format(rest).ok_or(MALFORMED)?,
+        DATE => settings.with_date(rest).ok_or(MALFORMED)?,
+        SERIAL_ADDRESS => settings.with_address(rest).ok_or(MALFORMED)?,
+        CONFIGURATION => Settings {
+            files: configure(rest, board.memory)?,
+            ..settings
+        },
+        _ => return Err(UNKNOWN),
+    };
+    Ok(())
+}
+
+/// "F: labels 20H, "!", "'", ";", "$" and "#", without data. Replies use the
+/// layouts above".
+pub fn get(board: &Board<'_>, data: &[u8]) -> Result<Vec<u8>, Number> {
+    let (&label, rest) = data.split_first().ok_or(MALFORMED)?;
+    let settings = board.settings;
+    let text = match label {
+        TIME => settings.time_text(),
+        SPEAKER => settings.speaker_text(),
+        TIME_FORMAT => settings.format_text(),
+        DATE => settings.date_text(),
+        CONFIGURATION => records_text(board.memory, settings.files),
+        POOL => pool_text(board),
+        _ => return Err(UNKNOWN),
+    };
+    if !rest.is_empty() {
+        return Err(MALFORMED);
+    }
+    Ok(reply(WRITE_SPECIAL, label, &text))
+}
+
+/// ""#" gives POOL,pool, total and unused, four hex digits each."
+fn pool_text(board: &Board<'_>) -> Vec<u8> {
+    let total = board.memory.len();
+    let unused = unused(board.memory, board.settings.files);
+    let mut text = size_text(total).to_vec();
+    text.push(COMMA);
+    text.extend(size_text(unused));
+    text
+}
+
+/// A size of at most 32,768 as four hex digits.
+fn size_text(size: usize) -> [u8; 4] {
+    word_digits(u16::try_from(size).unwrap_or(u16::MAX))
+}

@@ -1,0 +1,72 @@
+//! Frames put together by hand, for the fixed cases.
+
+use crate::bytes::{EOT, ETX, NUL, SOH, STX};
+use crate::forms::push_escape;
+use crate::hex::word_digits;
+
+/// Five NUL, SOH, the header, the blocks parted by ETX, EOT.
+pub fn plain(header: &[u8], blocks: &[&[u8]]) -> Vec<u8> {
+    after(&[NUL, NUL, NUL, NUL, NUL, SOH], header, blocks)
+}
+
+/// A lead, the header, the blocks parted by ETX, EOT.
+pub fn after(lead: &[u8], header: &[u8], blocks: &[&[u8]]) -> Vec<u8> {
+    let mut bytes = [lead, header].concat();
+    for (place, block) in blocks.iter().enumerate() {
+        if place > 0 {
+            bytes.push(ETX);
+        }
+        bytes.push(STX);
+        bytes.extend_from_slice(block);
+    }
+    bytes.push(EOT);
+    bytes
+}
+
+/// Five NUL, SOH, the header, each block with ETX and its checksum, EOT.
+pub fn summed(header: &[u8], blocks: &[&[u8]]) -> Vec<u8> {
+    let with_sums: Vec<Vec<u8>> = blocks.iter().map(|block| with_sum(block)).collect();
+    let mut bytes = vec![NUL, NUL, NUL, NUL, NUL, SOH];
+    bytes.extend_from_slice(header);
+    bytes.extend(with_sums.concat());
+    bytes.push(EOT);
+    bytes
+}
+
+/// STX, a command and its data, ETX, checksum.
+fn with_sum(block: &[u8]) -> Vec<u8> {
+    let mut bytes = vec![STX];
+    bytes.extend_from_slice(block);
+    bytes.push(ETX);
+    let sum: u32 = bytes.iter().map(|&byte| u32::from(byte)).sum();
+    bytes.extend(word_digits((sum % 0x1_0000) as u16));
+    bytes
+}
+
+/// A frame with five NUL, without them.
+pub fn without_nuls(frame: &[u8]) -> Vec<u8> {
+    frame
+        .iter()
+        .copied()
+        .skip_while(|&byte| byte == NUL)
+        .collect()
+}
+
+/// Every byte as an escape.
+pub fn escaped(translated: &[u8]) -> Vec<u8> {
+    let mut bytes = Vec::new();
+    for &byte in translated {
+        push_escape(&mut bytes, byte);
+    }
+    bytes
+}
+
+/// A command, a label and so many bytes of filler.
+pub fn filled(start: &[u8], length: usize, filler: u8) -> Vec<u8> {
+    [start, &vec![filler; length]].concat()
+}
+
+/// So many pairs "Z00" joined by commas.
+pub fn pairs(count: usize) -> Vec<u8> {
+    vec![b"Z00".to_vec(); count].join(&b',')
+}

@@ -1,0 +1,38 @@
+//! The fixed cases: chosen examples with the numbers that document 01 gives
+//! them.
+
+pub mod boards;
+pub mod build;
+pub mod outputs;
+
+use std::io::{self, Write};
+
+use crate::numbers::Number;
+use crate::stream::Case;
+
+/// A case, what it shows, and the numbers that come back: the call's own and
+/// that of the first refused block.
+#[derive(Clone, Debug)]
+pub struct Stored {
+    pub about: String,
+    pub case: Case,
+    pub number: Number,
+    pub first: Number,
+}
+
+/// All fixed cases: writing, re-forming and joining first, then the boards.
+pub fn all() -> Vec<Stored> {
+    let mut cases = outputs::all();
+    cases.extend(boards::all());
+    cases
+}
+
+/// Writes the fixed cases of these calls.
+pub fn write_stored(output: &mut impl Write, calls: &[u8]) -> io::Result<()> {
+    for stored in all() {
+        if calls.contains(&stored.case.call()) {
+            output.write_all(&stored.case.encode())?;
+        }
+    }
+    output.flush()
+}

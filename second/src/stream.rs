@@ -1,0 +1,388 @@
+//! The case stream: cases read from an input, a line written for each.
+
+use std::io::{self, BufRead, Write};
+
+use crate::forms::Written;
+use crate::fresh::{fresh, Made};
+use crate::hex::byte_digits;
+use crate::joining::join;
+use crate::reforming::reform;
+use crate::run::{run, Ran};
+use crate::settings::{Settings, FIELDS};
+use crate::writing::write;
+
+pub const FRESH_CALL: u8 = b'N';
+pub const RUN_CALL: u8 = b'R';
+pub const WRITE_CALL: u8 = b'W';
+pub const REFORM_CALL: u8 = b'F';
+pub const JOIN_CALL: u8 = b'J';
+/// All call bytes.
+pub const CALLS: [u8; 5] = [FRESH_CALL, RUN_CALL, WRITE_CALL, REFORM_CALL, JOIN_CALL];
+
+/// The line for a case that cannot be read.
+const BAD_CASE: &[u8] = b"bad case\n";
+
+/// One call with its arguments.
+#[derive(Clone, Debug, PartialEq, Eq)]
+pub enum Case {
+    Fresh {
+        own_type: u8,
+        memory: Vec<u8>,
+    },
+    Run {
+        settings: Settings,
+        memory: Vec<u8>,
+        reply: Vec<u8>,
+        frame: Vec<u8>,
+    },
+    Write {
+        form: u8,
+        header: Vec<u8>,
+        command: u8,
+        data: Vec<u8>,
+        output: Vec<u8>,
+    },
+    Reform {
+        form: u8,
+        frame: Vec<u8>,
+        output: Vec<u8>,
+    },
+    Join {
+        form: u8,
+        first: Vec<u8>,
+        second: Vec<u8>,
+        output: Vec<u8>,
+    },
+}
+
+/// What a call gave, with the buffers as it left them.
+#[derive(Clone, Debug, PartialEq, Eq)]
+pub enum Answer {
+    Fresh {
+        made: Made,
+        memory: Vec<u8>,
+    },
+    Run {
+        ran: Ran,
+        memory: Vec<u8>,
+        reply: Vec<u8>,
+    },
+    Output {
+        written: Written,
+        output: Vec<u8>,
+    },
+}
+
+impl Answer {
+    /// The number that came back.
+    pub fn number(&self) -> u8 {
+        match self {
+            Answer::Fresh { made, .. } => made.number,
+            Answer::Run { ran, .. } => ran.number,
+            Answer::Output { written, .. } => written.number,
+        }
+    }
+
+    /// The number of the first refused block, 0 where there is none.
+    pub fn first_number(&self) -> u8 {
+        match self {
+            Answer::Run { ran, .. } => ran.first_number,
+            _ => 0,
+        }
+    }
+}
+
+impl Case {
+    /// The case's call byte.
+    pub fn call(&self) -> u8 {
+        match self {
+            Case::Fresh { .. } => FRESH_CALL,
+            Case::Run { .. } => RUN_CALL,
+            Case::Write { .. } => WRITE_CALL,
+            Case::Reform { .. } => REFORM_CALL,
+            Case::Join { .. } => JOIN_CALL,
+        }
+    }
+
+    /// Makes the call.
+    pub fn answer(self) -> Answer {
+        match self {
+            Case::Fresh {
+                own_type,
+                mut memory,
+            } => {
+                let made = fresh(own_type, &mut memory);
+                Answer::Fresh { made, memory }
+            }
+            Case::Run {
+                settings,
+                mut memory,
+                mut reply,
+                frame,
+            } => {
+                let ran = run(settings, &mut memory, &mut reply, &frame);
+                Answer::Run { ran, memory, reply }
+            }
+            Case::Write {
+                form,
+                header,
+                command,
+                data,
+                mut output,
+            } => {
+                let written = write(form, &header, command, &data, &mut output);
+                Answer::Output { written, output }
+            }
+            Case::Reform {
+                form,
+                frame,
+                mut output,
+            } => {
+                let written = reform(form, &frame, &mut output);
+                Answer::Output { written, output }
+            }
+            Case::Join {
+                form,
+                first,
+                second,
+                mut output,
+            } => {
+                let written = join(form, &first, &second, &mut output);
+                Answer::Output { written, output }
+            }
+        }
+    }
+
+    /// The case as it stands in a stream: "a call byte and its arguments in
+    /// order".
+    pub fn encode(&self) -> Vec<u8> {
+        let mut bytes = vec![self.call()];
+        match self {
+            Case::Fresh { own_type, memory } => {
+                bytes.push(*own_type);
+                push_string(&mut bytes, memory);
+            }
+            Case::Run {
+                settings,
+                memory,
+                reply,
+                frame,
+            } => {
+                push_string(&mut bytes, &settings.fields());
+                push_string(&mut bytes, memory);
+                push_string(&mut bytes, reply);
+                push_string(&mut bytes, frame);
+            }
+            Case::Write {
+                form,
+                header,
+                command,
+                data,
+                output,
+            } => {
+                bytes.push(*form);
+                push_string(&mut bytes, header);
+                bytes.push(*command);
+                push_string(&mut bytes, data);
+                push_string(&mut bytes, output);
+            }
+            Case::Reform {
+                form,
+                frame,
+                output,
+            } => {
+                bytes.push(*form);
+                push_string(&mut bytes, frame);
+                push_string(&mut bytes, output);
+            }
+            Case::Join {
+                form,
+                first,
+                second,
+                output,
+            } => {
+                bytes.push(*form);
+                push_string(&mut bytes, first);
+                push_string(&mut bytes, second);
+                push_string(&mut bytes, output);
+            }
+        }
+        bytes
+    }
+}
+
+/// "A string is its length in two bytes, most significant first, and then that
+/// many bytes (0 to 65,535)." A longer one is cut.
+fn push_string(bytes: &mut Vec<u8>, string: &[u8]) {
+    let length = u16::try_from(string.len()).unwrap_or(u16::MAX);
+    bytes.extend(length.to_be_bytes());
+    bytes.extend(string.iter().take(usize::from(length)));
+}
+
+/// What comes next in a stream.
+#[derive(Debug, PartialEq, Eq)]
+pub enum Next {
+    Case(Case),
+    /// "an unknown call byte, settings of another length, an input that ends
+    /// inside a case"
+    Bad,
+    End,
+}
+
+/// Reads the next case.
+pub fn next_case(input: &mut impl BufRead) -> io::Result<Next> {
+    let call = match input.fill_buf()?.first() {
+        None => return Ok(Next::End),
+        Some(call) => *call,
+    };
+    input.consume(1);
+    match read_arguments(call, input) {
+        Ok(Some(case)) => Ok(Next::Case(case)),
+        Ok(None) => Ok(Next::Bad),
+        Err(error) if error.kind() == io::ErrorKind::UnexpectedEof => Ok(Next::Bad),
+        Err(error) => Err(error),
+    }
+}
+
+/// The case of this call byte, or none where there is no such case.
+fn read_arguments(call: u8, input: &mut impl BufRead) -> io::Result<Option<Case>> {
+    let case = match call {
+        FRESH_CALL => Case::Fresh {
+            own_type: read_number(input)?,
+            memory: read_string(input)?,
+        },
+        RUN_CALL => {
+            let Ok(fields) = <[u8; FIELDS]>::try_from(read_string(input)?) else {
+                return Ok(None);
+            };
+            Case::Run {
+                settings: Settings::from_fields(fields),
+                memory: read_string(input)?,
+                reply: read_string(input)?,
+                frame: read_string(input)?,
+            }
+        }
+        WRITE_CALL => Case::Write {
+            form: read_number(input)?,
+            header: read_string(input)?,
+            command: read_number(input)?,
+            data: read_string(input)?,
+            output: read_string(input)?,
+        },
+        REFORM_CALL => Case::Reform {
+            form: read_number(input)?,
+            frame: read_string(input)?,
+            output: read_string(input)?,
+        },
+        JOIN_CALL => Case::Join {
+            form: read_number(input)?,
+            first: read_string(input)?,
+            second: read_string(input)?,
+            output: read_string(input)?,
+        },
+        _ => return Ok(None),
+    };
+    Ok(Some(case))
+}
+
+/// "A number is one byte."
+fn read_number(input: &mut impl BufRead) -> io::Result<u8> {
+    let mut number = [0];
+    input.read_exact(&mut number)?;
+    Ok(u8::from_be_bytes(number))
+}
+
+fn read_string(input: &mut impl BufRead) -> io::Result<Vec<u8>> {
+    let mut length = [0; 2];
+    input.read_exact(&mut length)?;
+    let mut string = vec![0; usize::from(u16::from_be_bytes(length))];
+    input.read_exact(&mut string)?;
+    Ok(string)
+}
+
+/// "A line for each case, ended by LF, its fields parted by single spaces;
+/// numbers in decimal, strings in upper-case hex, an empty string as `-`."
+pub fn line(answer: &Answer) -> Vec<u8> {
+    let mut line = Line::default();
+    match answer {
+        Answer::Fresh { made, memory } => {
+            line.number(made.number);
+            line.settings(made.settings);
+            line.string(memory);
+        }
+        Answer::Run { ran, memory, reply } => {
+            line.number(ran.number);
+            line.number(ran.done);
+            line.number(ran.refused);
+            line.number(ran.first_place);
+            line.number(ran.first_number);
+            line.number(ran.reply_length);
+            line.settings(ran.settings);
+            line.string(memory);
+            line.string(reply);
+        }
+        Answer::Output { written, output } => {
+            line.number(written.number);
+            line.number(written.length);
+            line.string(output);
+        }
+    }
+    line.end()
+}
+
+/// A line while it grows.
+#[derive(Default)]
+struct Line {
+    text: Vec<u8>,
+}
+
+impl Line {
+    fn part(&mut self) {
+        if !self.text.is_empty() {
+            self.text.push(b' ');
+        }
+    }
+
+    fn number(&mut self, number: impl ToString) {
+        self.part();
+        self.text.extend_from_slice(number.to_string().as_bytes());
+    }
+
+    fn settings(&mut self, settings: Settings) {
+        for field in settings.fields() {
+            self.number(field);
+        }
+    }
+
+    fn string(&mut self, string: &[u8]) {
+        self.part();
+        if string.is_empty() {
+            self.text.push(b'-');
+        }
+        self.text.reserve(2 * string.len());
+        for &byte in string {
+            self.text.extend(byte_digits(byte));
+        }
+    }
+
+    fn end(mut self) -> Vec<u8> {
+        self.text.push(b'\n');
+        self.text
+    }
+}
+
+/// Reads cases to the end of the input and writes their lines. A case that
+/// cannot be read "writes the line `bad case` and ends the program".
+pub fn replay(input: &mut impl BufRead, output: &mut impl Write) -> io::Result<()> {
+    loop {
+        match next_case(input)? {
+            Next::Case(case) => output.write_all(&line(&case.answer()))?,
+            Next::Bad => {
+                output.write_all(BAD_CASE)?;
+                break;
+            }
+            Next::End => break,
+        }
+    }
+    output.flush()
+}

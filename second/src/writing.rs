@@ -1,0 +1,38 @@
+//! Writing a one-command frame. "Writing: 15, 6, 16, 18, 14."
+
+use crate::body::Block;
+use crate::bytes::LOWEST_DATA;
+use crate::forms::{form_of, put, written, Written};
+use crate::header;
+use crate::numbers::{Number, LOW_BYTE};
+
+/// Writes one command under a header, in the form asked for.
+pub fn write(form: u8, header: &[u8], command: u8, data: &[u8], output: &mut [u8]) -> Written {
+    written(try_write(form, header, command, data, output))
+}
+
+fn try_write(
+    form: u8,
+    header: &[u8],
+    command: u8,
+    data: &[u8],
+    output: &mut [u8],
+) -> Result<usize, Number> {
+    let form = form_of(form)?;
+    header::pairs(header)?;
+    check_bytes(command, data)?;
+    let block = Block {
+        command,
+        data,
+        given_sum: None,
+    };
+    put(form, header, &[block], output)
+}
+
+/// "command or data byte below 05H".
+fn check_bytes(command: u8, data: &[u8]) -> Result<(), Number> {
+    if command < LOWEST_DATA || data.iter().any(|&byte| byte < LOWEST_DATA) {
+        return Err(LOW_BYTE);
+    }
+    Ok(())
+}

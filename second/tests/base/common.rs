@@ -1,0 +1,194 @@
+//! What the tests share: calls that also look at everything a call may not
+//! touch.
+
+pub use second::stored::boards::Kit;
+pub use second::stored::build::{after, escaped, filled, pairs, plain, summed, without_nuls};
+
+use second::fresh::{fresh, Made};
+use second::joining::join;
+use second::reforming::reform;
+use second::run::{run, Ran};
+use second::settings::Settings;
+use second::writing::write;
+
+pub const FILLER: u8 = 0xA5;
+
+/// A run, the board after it, and its reply.
+pub struct After {
+    pub ran: Ran,
+    pub kit: Kit,
+    pub reply: Vec<u8>,
+}
+
+/// Runs a frame with a reply buffer that is just long enough.
+pub fn run_on(kit: &Kit, frame: &[u8]) -> After {
+    run_with(kit, frame, kit.memory.len() + 64)
+}
+
+/// Runs a frame with a reply buffer of so many bytes, and checks "1 to 9:
+/// board and buffers untouched, everything else returned is 0" and that
+/// "nothing after it is touched".
+pub fn run_with(kit: &Kit, frame: &[u8], room: usize) -> After {
+    let mut memory = kit.memory.clone();
+    let mut reply = vec![FILLER; room];
+    let ran = run(kit.settings, &mut memory, &mut reply, frame);
+    if ran.number != 0 {
+        let nothing = Ran {
+            number: ran.number,
+            done: 0,
+            refused: 0,
+            first_place: 0,
+            first_number: 0,
+            reply_length: 0,
+            settings: kit.settings,
+        };
+        assert_eq!(ran, nothing);
+        assert_eq!(memory, kit.memory);
+    }
+    assert!(ran.done + ran.refused <= 64);
+    assert_eq!(ran.first_place == 0, ran.refused == 0);
+    assert_eq!(ran.first_number == 0, ran.refused == 0);
+    let tail = &reply[ran.reply_length..];
+    assert!(tail.iter().all(|&byte| byte == FILLER));
+    reply.truncate(ran.reply_length);
+    After {
+        ran,
+        kit: Kit {
+            settings: ran.settings,
+            memory,
+        },
+        reply,
+    }
+}
+
+/// The frame's number.
+pub fn number_of(kit: &Kit, frame: &[u8]) -> u8 {
+    run_on(kit, frame).ran.number
+}
+
+/// The number of a frame of these blocks' first refused one.
+pub fn first_of(kit: &Kit, blocks: &[&[u8]]) -> u8 {
+    let after = run_on(kit, &plain(b"Z00", blocks));
+    assert_eq!(after.ran.number, 0);
+    after.ran.first_number
+}
+
+/// Runs one block: Ok is its reply, Err its number; a refused block leaves the
+/// board as it was.
+pub fn block_on(kit: &Kit, block: &[u8]) -> Result<After, u8> {
+    let after = run_on(kit, &plain(b"Z00", &[block]));
+    assert_eq!(after.ran.number, 0);
+    if after.ran.refused == 0 {
+        assert_eq!(after.ran.done, 1);
+        return Ok(after);
+    }
+    assert_eq!((after.ran.done, after.ran.refused), (0, 1));
+    assert_eq!(after.ran.first_place, 1);
+    assert_eq!(after.ran.settings, kit.settings);
+    assert_eq!(after.kit.memory, kit.memory);
+    assert_eq!(after.reply, b"");
+    Err(after.ran.first_number)
+}
+
+/// 0 or the number of one block.
+pub fn block_number(kit: &Kit, block: &[u8]) -> u8 {
+    match block_on(kit, block) {
+        Ok(_) => 0,
+        Err(number) => number,
+    }
+}
+
+/// What a call put into a buffer of so many bytes, or its number; the rest of
+/// the buffer is untouched.
+fn output_of(
+    room: usize,
+    call: impl Fn(&mut [u8]) -> second::forms::Written,
+) -> Result<Vec<u8>, u8> {
+    let mut output = vec![FILLER; room];
+    let written = call(&mut output);
+    assert!(written.length <= room);
+    let tail = output.split_off(written.length);
+    assert!(tail.iter().all(|&byte| byte == FILLER));
+    if written.number == 0 {
+        Ok(output)
+    } else {
+        assert_eq!(written.length, 0);
+        Err(written.number)
+    }
+}
+
+pub const AMPLE: usize = 30_000;
+
+pub fn write_in(
+    room: usize,
+    form: u8,
+    header: &[u8],
+    command: u8,
+    data: &[u8],
+) -> Result<Vec<u8>, u8> {
+    output_of(room, |output| write(form, header, command, data, output))
+}
+
+pub fn write_out(form: u8, header: &[u8], command: u8, data: &[u8]) -> Result<Vec<u8>, u8> {
+    write_in(AMPLE, form, header, command, data)
+}
+
+pub fn reform_in(room: usize, form: u8, frame: &[u8]) -> Result<Vec<u8>, u8> {
+    output_of(room, |output| reform(form, frame, output))
+}
+
+pub fn reform_out(form: u8, frame: &[u8]) -> Result<Vec<u8>, u8> {
+    reform_in(AMPLE, form, frame)
+}
+
+pub fn join_in(room: usize, form: u8, first: &[u8], second: &[u8]) -> Result<Vec<u8>, u8> {
+    output_of(room, |output| join(form, first, second, output))
+}
+
+pub fn join_out(form: u8, first: &[u8], second: &[u8]) -> Result<Vec<u8>, u8> {
+    join_in(AMPLE, form, first, second)
+}
+
+/// Makes a fresh board in memory that is not zero, and checks what a refusal
+/// leaves.
+pub fn fresh_in(own_type: u8, length: usize) -> Made {
+    let mut memory = vec![FILLER; length];
+    let made = fresh(own_type, &mut memory);
+    if made.number == 0 {
+        assert!(memory.iter().all(|&byte| byte == 0));
+    } else {
+        assert!(memory.iter().all(|&byte| byte == FILLER));
+        assert_eq!(made.settings, Settings::default());
+    }
+    made
+}
+
+/// A board of type "C" with TEXT "A" of 16 bytes and STRING "S" of 8.
+pub fn two_files() -> Kit {
+    Kit::fresh(b'C', 128).after(&[b"E$AAU0010FF00SBL00080000"])
+}
+
+/// The content of the file whose record stands at this place.
+pub fn content(kit: &Kit, record: usize) -> Vec<u8> {
+    let size = std::str::from_utf8(&kit.memory[record + 3..record + 7]).expect("digits");
+    let size = usize::from_str_radix(size, 16).expect("digits");
+    kit.memory[record + 11..record + 11 + size].to_vec()
+}
+
+/// A message and the zeros after it, so many bytes together.
+pub fn padded(message: &[u8], size: usize) -> Vec<u8> {
+    let mut bytes = message.to_vec();
+    bytes.resize(size, 0);
+    bytes
+}
+
+/// The bytes of a reply with this sum.
+pub fn reply_of(code_label_data: &[u8], sum: &[u8]) -> Vec<u8> {
+    let mut bytes = vec![0; 20];
+    bytes.extend(b"\x01000\x02");
+    bytes.extend(code_label_data);
+    bytes.push(3);
+    bytes.extend(sum);
+    bytes.push(4);
+    bytes
+}

@@ -1,0 +1,96 @@
+//! The random cases: every number that a call can answer occurs, and most runs
+//! are on sound, addressed boards.
+
+use std::collections::BTreeMap;
+
+use second::cases::any_case;
+use second::cases::dice::Dice;
+use second::cases::write_cases;
+use second::stream::{next_case, Answer, Case, Next, CALLS};
+
+const CASES: usize = 5_000;
+
+/// How often each call answered each number; the first refused block's number
+/// of a run counts under "r".
+fn count(seed: u64, calls: &[u8]) -> (BTreeMap<(u8, u8), usize>, usize, usize) {
+    let mut dice = Dice::new(seed);
+    let mut seen = BTreeMap::new();
+    let mut runs = 0;
+    let mut good_runs = 0;
+    for _ in 0..CASES {
+        let case = any_case(&mut dice, calls).expect("a call to choose");
+        let call = case.call();
+        let answer = case.answer();
+        *seen.entry((call, answer.number())).or_insert(0) += 1;
+        if let Answer::Run { ran, .. } = answer {
+            runs += 1;
+            let blocks = ran.done + ran.refused;
+            if ran.number == 0 && (2..=64).contains(&blocks) {
+                good_runs += 1;
+            }
+            if ran.first_number != 0 {
+                *seen.entry((b'r', ran.first_number)).or_insert(0) += 1;
+            }
+        }
+    }
+    (seen, runs, good_runs)
+}
+
+#[test]
+fn every_number_occurs() {
+    let expected: [(u8, &[u8]); 6] = [
+        (b'N', &[0, 10, 11]),
+        (b'R', &[0, 1, 2, 3, 4, 5, 6, 7, 8, 9]),
+        (b'r', &[20, 21, 22, 23, 24, 25, 26, 27]),
+        (b'W', &[0, 6, 14, 15, 16, 18]),
+        (b'F', &[0, 3, 4, 5, 6, 7, 8, 14, 15, 17, 18]),
+        (b'J', &[0, 3, 4, 5, 6, 7, 8, 12, 13, 14, 15, 17, 18]),
+    ];
+    for seed in [1, 2] {
+        let (seen, runs, good_runs) = count(seed, &CALLS);
+        println!("{seen:?} {runs} {good_runs}");
+        for (call, numbers) in expected {
+            let found: Vec<u8> = seen
+                .keys()
+                .filter(|(of, _)| *of == call)
+                .map(|(_, number)| *number)
+                .collect();
+            assert_eq!(found, numbers, "call {}", char::from(call));
+        }
+        assert!(2 * good_runs >= runs, "{good_runs} of {runs}");
+    }
+}
+
+#[test]
+fn calls_are_chosen() {
+    let mut dice = Dice::new(3);
+    for _ in 0..200 {
+        let case = any_case(&mut dice, b"WFJ").expect("a call to choose");
+        assert!(b"WFJ".contains(&case.call()));
+    }
+    assert_eq!(any_case(&mut dice, b""), None);
+}
+
+#[test]
+fn the_stream_is_the_cases() {
+    let mut stream = Vec::new();
+    write_cases(&mut stream, 7, 300, &CALLS).expect("memory takes it");
+    let mut again = Vec::new();
+    write_cases(&mut again, 7, 300, &CALLS).expect("memory takes it");
+    assert_eq!(stream, again);
+    let mut dice = Dice::new(7);
+    let mut input = stream.as_slice();
+    for _ in 0..300 {
+        let case: Case = any_case(&mut dice, &CALLS).expect("a call to choose");
+        let next = next_case(&mut input).expect("memory gives it");
+        assert_eq!(next, Next::Case(case));
+    }
+    assert_eq!(next_case(&mut input).expect("memory gives it"), Next::End);
+}
+
+#[test]
+fn three_thousand_cases_are_a_few_megabytes() {
+    let mut stream = Vec::new();
+    write_cases(&mut stream, 1, 3_000, &CALLS).expect("memory takes it");
+    assert!(stream.len() < 5_000_000, "{}", stream.len());
+}

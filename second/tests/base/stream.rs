@@ -1,0 +1,167 @@
+//! The case stream: what is read, what is written, and what is a bad case.
+
+use second::settings::Settings;
+use second::stream::{line, next_case, replay, Case, Next};
+
+fn lines(stream: &[u8]) -> String {
+    let mut input = stream;
+    let mut output = Vec::new();
+    replay(&mut input, &mut output).expect("memory takes it");
+    String::from_utf8(output).expect("lines are ASCII")
+}
+
+/// The string part of a case: its length in two bytes, then its bytes.
+fn string(bytes: &[u8]) -> Vec<u8> {
+    let length = u16::try_from(bytes.len()).expect("a short string");
+    [&length.to_be_bytes(), bytes].concat()
+}
+
+const SETTINGS: [u8; 10] = [0, 0, 1, 1, 0, b'S', 0, 0, b'C', 0];
+
+#[test]
+fn a_fresh_board() {
+    let case = [b"NC".to_vec(), string(&[0xFF; 64])].concat();
+    let zeros = "00".repeat(64);
+    assert_eq!(lines(&case), format!("0 0 0 1 1 0 83 0 0 67 0 {zeros}\n"));
+    let case = [b"NZ".to_vec(), string(b"\xAB")].concat();
+    assert_eq!(lines(&case), "10 0 0 0 0 0 0 0 0 0 0 AB\n");
+    let case = [b"NC".to_vec(), string(b"")].concat();
+    assert_eq!(lines(&case), "11 0 0 0 0 0 0 0 0 0 0 -\n");
+}
+
+#[test]
+fn a_run() {
+    let frame = b"\0\0\0\0\0\x01Z00\x02X\x03\x02F \x04";
+    let case = [
+        b"R".to_vec(),
+        string(&SETTINGS),
+        string(&[0; 64]),
+        string(&[0xEE; 129]),
+        string(frame),
+    ]
+    .concat();
+    let memory = "00".repeat(64);
+    let nuls = "00".repeat(20);
+    let reply = "01303030024520303030300330313241";
+    let rest = "EE".repeat(129 - 37);
+    assert_eq!(
+        lines(&case),
+        format!("0 1 1 1 21 37 0 0 1 1 0 83 0 0 67 0 {memory} {nuls}{reply}04{rest}\n")
+    );
+    let case = [
+        b"R".to_vec(),
+        string(&[24, 1, 2, 3, 4, 5, 6, 7, 8, 9]),
+        string(b""),
+        string(b"\x01"),
+        string(frame),
+    ]
+    .concat();
+    assert_eq!(lines(&case), "1 0 0 0 0 0 24 1 2 3 4 5 6 7 8 9 - 01\n");
+}
+
+#[test]
+fn a_write_a_reforming_and_a_joining() {
+    let write = [
+        b"W\x01".to_vec(),
+        string(b"Z00"),
+        b"A".to_vec(),
+        string(b"B"),
+        string(&[0xFF; 14]),
+    ]
+    .concat();
+    let written = "0 13 0000000000015A303002414204FF\n";
+    assert_eq!(lines(&write), written);
+    let frame = b"_01Z00_02AB_04";
+    let reform = [b"F\x01".to_vec(), string(frame), string(&[0xFF; 14])].concat();
+    assert_eq!(lines(&reform), written);
+    let join = [
+        b"J\x01".to_vec(),
+        string(frame),
+        string(frame),
+        string(&[0xFF; 17]),
+    ]
+    .concat();
+    assert_eq!(lines(&join), "0 17 0000000000015A30300241420302414204\n");
+    let all = [write, reform, join].concat();
+    assert_eq!(lines(&all).lines().count(), 3);
+    let short = [b"F\x01".to_vec(), string(frame), string(b"")].concat();
+    assert_eq!(lines(&short), "14 0 -\n");
+}
+
+#[test]
+fn bad_cases_end_the_stream() {
+    let good = [b"F\x00".to_vec(), string(b""), string(b"")].concat();
+    let good_line = "15 0 -\n";
+    assert_eq!(lines(b""), "");
+    assert_eq!(lines(&good), good_line);
+    let nine = [
+        b"R".to_vec(),
+        string(&SETTINGS[..9]),
+        string(b""),
+        string(b""),
+        string(b""),
+    ]
+    .concat();
+    for bad in [
+        b"X".as_slice(),
+        b"n",
+        b"\0",
+        b"N",
+        b"NC",
+        b"NC\0",
+        b"NC\0\x05abcd",
+        b"F\x01\0\0",
+        b"F\x01\0\0\0",
+        b"W\x01\0\0A\0\0",
+        b"J\x01\0\0\0\0",
+        &nine,
+    ] {
+        let stream = [&good, bad].concat();
+        assert_eq!(lines(&stream), format!("{good_line}bad case\n"), "{bad:?}");
+    }
+    let stream = [&good, b"X".as_slice(), &good].concat();
+    assert_eq!(lines(&stream), format!("{good_line}bad case\n"));
+}
+
+#[test]
+fn what_is_encoded_is_read_again() {
+    let text = |length: usize| vec![b'x'; length];
+    for case in [
+        Case::Fresh {
+            own_type: b'C',
+            memory: text(300),
+        },
+        Case::Run {
+            settings: Settings::from_fields([1, 2, 3, 4, 5, 6, 7, 8, 9, 10]),
+            memory: text(256),
+            reply: text(1),
+            frame: text(0),
+        },
+        Case::Write {
+            form: 9,
+            header: text(3),
+            command: 0xFF,
+            data: text(65_535),
+            output: text(2),
+        },
+        Case::Reform {
+            form: 0,
+            frame: text(4),
+            output: text(5),
+        },
+        Case::Join {
+            form: 3,
+            first: text(6),
+            second: text(7),
+            output: text(8),
+        },
+    ] {
+        let bytes = case.encode();
+        let mut input = bytes.as_slice();
+        let next = next_case(&mut input).expect("memory gives it");
+        assert_eq!(next, Next::Case(case.clone()));
+        assert!(input.is_empty());
+        let expected = line(&case.answer());
+        assert_eq!(lines(&bytes).as_bytes(), expected);
+    }
+}
