@@ -5,3 +5,4 @@ pub mod Sums
 pub mod StepLaws
 pub mod BlockLoops
 pub mod Verdicts
+pub mod Unique

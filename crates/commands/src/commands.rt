@@ -14,7 +14,7 @@ use octets::slices::plain_run;
 ghost use mathlib.Core.Path.{_≡_};
 ghost use mathlib.Core.Bool.{true};
 ghost use Prim.Native.Nat.{_+_, _≤_};
-ghost use lib.ListN.{length, take, drop};
+ghost use lib.ListN.{length};
 ghost use Rattle.octets.specs.Choice.{front};
 ghost use Rattle.octets.specs.Bytes.{isPlain};
 ghost use Rattle.board.specs.Soundness.{sound};

@@ -18,7 +18,8 @@ use Rattle.body.specs.Sum.{checksum}
 use Rattle.body.proofs.Plain.{checksum-small}
 use Rattle.forms.specs.Forms.{isItself, escapeOf, nuls}
 use Rattle.forms.specs.Pieces.{FAR, Puts, inHex2, encode, parting, ending, piece, heading}
-use Rattle.forms.proofs.PieceLaws.{encode-append, encode-none, encode-length, encode-other, encode-itself, encode-escaped, encode-sum, hex4-halves, parting-length, piece-length, nuls-length, heading-length}
+use Rattle.forms.proofs.PieceLaws.{encode-append, encode-none, encode-length, encode-other, encode-itself, encode-escaped, encode-sum}
+use Rattle.forms.proofs.PieceLaws.{hex4-halves, parting-length, piece-length, nuls-length, heading-length}
 
 -- ---- one list behind the other
 
