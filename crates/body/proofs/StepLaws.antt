@@ -1,5 +1,5 @@
 -- A block at a place: what the bytes there say of it, test by test.
-use mathlib.Core.Path.{_≡_, refl, sym, ap, _∙_}
+use mathlib.Core.Path.{_≡_, sym, ap, _∙_}
 use mathlib.Core.Bool.{Bool, true, false, _||_}
 use mathlib.Core.List.{List}
 use mathlib.Core.Logic.{_⊎_, ⊎-elim, inl, inr}
@@ -8,19 +8,18 @@ use mir.Syntax.{w64}
 use mir.Val.{Fits}
 use native.Mathlib.Omega.{arith}
 use borrow.Author.Needs.{needs}
-use borrow.Author.Tests.{ne-eqb, le-leb, lt-leb}
+use borrow.Author.Tests.{ne-eqb}
 use lib.ListN.{length, drop, length-take, length-drop}
 use lib.Seq.{drop-drop}
 use Rattle.octets.specs.Choice.{_is_, _!_, front, behind}
 use Rattle.octets.specs.Bytes.{STX, ETX, EOT, isPlain}
-use Rattle.octets.specs.Hex.{isHex4, hex4}
 use Rattle.octets.specs.Digits.{four}
 use Rattle.octets.specs.declared.hex.Four.{Four}
 use Rattle.octets.specs.declared.hex.Four.the-variants.{Value, Bad}
 use Rattle.octets.proofs.Spots.{head-at, get-at, there}
 use Rattle.octets.proofs.Places.{take-front, drop-front}
 use Rattle.octets.proofs.Scans.{plain, not-plain}
-use Rattle.octets.proofs.Tests.{compare, by-test}
+use Rattle.octets.proofs.Told.{four-none, four-some}
 use Rattle.body.specs.Sum.{checksum}
 use Rattle.body.specs.Body.{block, isEnd, follow, afterEtx, afterData, blockAt}
 use Rattle.body.specs.Steps.{part, Inside, placed, foundAt}
@@ -67,17 +66,6 @@ module _ (s : List ℕ) (at to c : ℕ) (right : Bool) (next : ℕ) (h : Inside 
 pub ruleset following = (follow-more, follow-last, follow-stray, needs)
 
 -- ---- what stands behind its ETX, at place to
-
-never-both : {X : Type 0} (v : ℕ) → Value v ≡ Bad → X
-never-both v e = let z : _≡_ {A = ℕ} 0 1 = cc in absurd (omega arith)
-
-four-none : (l : List ℕ) → four l ≡ Bad → isHex4 l ≡ false
-unfolding four
-four-none l e = by-test (isHex4 l) (λ t. never-both (hex4 l) (rw t at e)) (λ t. t)
-
-four-some : (l : List ℕ) (v : ℕ) → four l ≡ Value v → (isHex4 l ≡ true) × (hex4 l ≡ v)
-unfolding four
-four-some l v e = by-test (isHex4 l) (λ t. (t, let q : Value (hex4 l) ≡ Value v = rw t at e in cc)) (λ t. never-both v (sym (rw t at e)))
 
 pub no-sum-yes : (x : ℕ) → (x ≡ STX) ⊎ (x ≡ EOT) → true ≡ (x is STX || x is EOT)
 no-sum-yes x h = ⊎-elim (λ e. rw e) (λ e. rw e) h

@@ -10,12 +10,12 @@ use borrow.Author.Needs.{needs}
 use borrow.Author.Tests.{eq-eqb, ne-eqb, not-true, not-false}
 use Rattle.octets.specs.Choice.{_is_, _≤?_, between, _!_, all, same}
 use Rattle.octets.specs.Bytes.{ZERO, F}
-use Rattle.octets.specs.Hex.{isHex2, hex2}
 use Rattle.octets.specs.Decimal.{isDecimal, decimal2}
 use Rattle.octets.specs.Digits.{two}
 use Rattle.octets.specs.declared.hex.Two.{Two}
 use Rattle.octets.specs.declared.hex.Two.the-variants.{Value, Bad}
 use Rattle.octets.proofs.Tests.{by-test, and-none}
+use Rattle.octets.proofs.Told.{two-none, two-some}
 use Rattle.board.specs.Settings.{FORMAT-S, FORMAT-M, OFF, ON, withTime, withDate, withFormat, withSpeaker, withAddress}
 use Rattle.board.specs.declared.Settings.{Settings}
 use Rattle.commands.specs.Commands.{board}
@@ -134,17 +134,6 @@ module _ (s : Settings) (d : List ℕ) where
 pub ruleset formatting = (format-length, format-other, format-right, needs)
 
 -- ---- the address
-
-never-both : {X : Type 0} (v : ℕ) → Value v ≡ Bad → X
-never-both v e = let z : _≡_ {A = ℕ} 0 1 = cc in absurd (omega arith)
-
-two-none : (l : List ℕ) → two l ≡ Bad → isHex2 l ≡ false
-unfolding two
-two-none l e = by-test (isHex2 l) (λ t. never-both (hex2 l) (rw t at e)) (λ t. t)
-
-two-some : (l : List ℕ) (v : ℕ) → two l ≡ Value v → (isHex2 l ≡ true) × (hex2 l ≡ v)
-unfolding two
-two-some l v e = by-test (isHex2 l) (λ t. (t, let q : Value (hex2 l) ≡ Value v = rw t at e in cc)) (λ t. never-both v (sym (rw t at e)))
 
 module _ (s : Settings) (d : List ℕ) where
   pub address-length : (length d ≡ 2 → ⊥) → Malformed ≡ setAddress s d

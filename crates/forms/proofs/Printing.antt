@@ -1,13 +1,13 @@
 -- The printable form: what is escaped translates back, starts with "_", is bytes, and is at most three times as long.
 use mathlib.Core.Path.{_≡_, refl, ap, _∙_}
-use mathlib.Core.Bool.{Bool, true, false, _&&_}
+use mathlib.Core.Bool.{Bool, true, false}
 use mathlib.Core.List.{List, [], _∷_}
 use Prim.Native.Nat.{ℕ, _*_, _/_, _%_, _<_, _≤_}
 use native.Mathlib.Omega.{arith}
 use lib.Dec.{lit≤}
 use lib.ListN.{length}
 use borrow.Author.Tests.{lt-ltb, ltb-true, not-true}
-use Rattle.octets.specs.Choice.{if_then_else_, _is_, _isn't_, between, isByte, all}
+use Rattle.octets.specs.Choice.{if_then_else_, _is_, between, isByte, all}
 use Rattle.octets.specs.Hex.{digit}
 use Rattle.octets.specs.Bytes.{SOH, ESCAPE}
 use Rattle.octets.proofs.Tests.{choice, split}

@@ -6,7 +6,7 @@ use mathlib.Core.List.{List, [], _∷_}
 use Prim.Native.Nat.{ℕ}
 use lib.ListN.{take}
 use Rattle.octets.specs.Choice.{isByte, all}
-use Rattle.body.specs.Body.{Block, block}
+use Rattle.body.specs.Body.{block}
 use Rattle.reading.specs.Reading.{frame, read}
 use Rattle.forms.specs.Output.{Output, output}
 use Rattle.forms.specs.Writing.{write}

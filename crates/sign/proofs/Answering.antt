@@ -7,10 +7,9 @@ use native.Mathlib.Omega.{arith}
 use borrow.Author.Needs.{needs}
 use borrow.Author.Tests.{lt-ltb, le-ltb, not-false}
 use lib.ListN.{length, take}
-use Rattle.octets.specs.Choice.{_<?_}
 use Rattle.header.specs.Addressing.{addressed}
 use Rattle.body.specs.Steps.{part, isBody, bodyAt, blocksIn, blocksAt}
-use Rattle.reading.specs.Reading.{Reading, refused, frame, read}
+use Rattle.reading.specs.Reading.{Reading, frame, read}
 use Rattle.reading.specs.Places.{Reads}
 use Rattle.reading.specs.declared.Read.{Read}
 use Rattle.reading.specs.declared.Read.the-variants.{Refused, Standard, Printable}
@@ -18,9 +17,8 @@ use Rattle.reading.proofs.Viewing.{Stands, reads-refused, reads-standard, reads
 use Rattle.board.specs.Soundness.{sound}
 use Rattle.board.specs.declared.Settings.{Settings}
 use Rattle.commands.specs.Commands.{board}
-use Rattle.commands.specs.Doing.{Ready}
 use Rattle.sign.specs.Run.{nothing, state, runBlocks, outcome, ran, runFrame, run}
-use Rattle.sign.specs.Running.{answerAs, stateAs, Running, Parted}
+use Rattle.sign.specs.Running.{answerAs, stateAs, Parted}
 use Rattle.sign.specs.declared.Tally.{Tally}
 use Rattle.sign.specs.declared.Answer.{Answer}
 use Rattle.sign.specs.declared.run.Ran.{Ran}

@@ -1,14 +1,13 @@
 -- What holds while the blocks of a body are run one after another, and its steps.
-use Prim.Native.Nat.{ℕ, zero, suc, _+_, _-_, _<_, _≤_}
+use Prim.Native.Nat.{ℕ, _+_, _-_, _<_, _≤_}
 use mathlib.Core.Path.{_≡_, refl, sym, ap, _∙_, subst}
-use mathlib.Core.Bool.{Bool, true, false}
-use mathlib.Core.List.{List, [], _∷_}
+use mathlib.Core.Bool.{Bool, true}
+use mathlib.Core.List.{List, _∷_}
 use native.Mathlib.Omega.{arith}
 use borrow.Author.Needs.{needs}
 use lib.ListN.{length, drop}
 use Rattle.octets.specs.Choice.{_is_, all}
 use Rattle.octets.specs.Bytes.{BLOCKS, isPlain}
-use Rattle.octets.specs.Buffer.{overlay}
 use Rattle.octets.proofs.Tests.{choice, never}
 use Rattle.body.specs.Body.{Block, block, Body, badBody, body, prepend, blocks}
 use Rattle.body.specs.Steps.{part, foundAt, blocksIn, isBody, bodyAt, blocksAt}

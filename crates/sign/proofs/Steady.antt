@@ -2,13 +2,12 @@
 use Prim.Native.Nat.{ℕ, _+_, _≤_}
 use mathlib.Core.Path.{_≡_, refl, _∙_}
 use mathlib.Core.List.{List, [], _∷_}
-use mathlib.Core.Bool.{true, false, not, _&&_}
+use mathlib.Core.Bool.{true, false, not}
 use native.Mathlib.Omega.{arith}
 use lib.ListN.{length, length-append, length-drop}
 use borrow.Author.Tests.{ltb-false, not-false, not-true}
-use Rattle.octets.specs.Choice.{_is_, _<?_, _!_}
+use Rattle.octets.specs.Choice.{_is_, _<?_}
 use Rattle.octets.specs.Buffer.{zeros, overlay}
-use Rattle.octets.specs.Bytes.{E}
 use Rattle.octets.proofs.Tests.{choice, split}
 use Rattle.octets.proofs.Buffers.{length-zeros}
 use Rattle.header.specs.Addressing.{isOwnType, addressed}
