@@ -7,7 +7,8 @@ mod output;
 pub mod reforming;
 pub mod writing;
 
-// What writing, re-forming and joining answer.
+// What writing, re-forming and joining answer. C lays it out alike.
+#[repr(C)]
 pub struct Written {
     pub number: u8,
     pub length: usize,

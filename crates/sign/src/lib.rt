@@ -1,4 +1,4 @@
-// Fresh boards and whole runs. The definitions are in specs/.
+// Fresh boards and whole runs. The definitions are in specs/. C lays the three structs out alike.
 use board::Settings;
 
 pub mod fresh;
@@ -6,6 +6,7 @@ pub mod numbers;
 pub mod run;
 
 // Blocks done, blocks refused, the place (from 1) and number of the first refused, and the reply's length.
+#[repr(C)]
 pub struct Tally {
     pub done: u8,
     pub refused: u8,
@@ -15,6 +16,7 @@ pub struct Tally {
 }
 
 // What a run answers.
+#[repr(C)]
 pub struct Answer {
     pub number: u8,
     pub tally: Tally,
@@ -22,6 +24,7 @@ pub struct Answer {
 }
 
 // What the making of a fresh board answers.
+#[repr(C)]
 pub struct Made {
     pub number: u8,
     pub settings: Settings,

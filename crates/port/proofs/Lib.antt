@@ -1,0 +1,2 @@
+-- What the functions go by, case by case.
+pub mod Telling

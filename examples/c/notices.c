@@ -1,0 +1,78 @@
+/* Two files are configured on a fresh board, two notices joined into one transmission and run, and one is read back.
+ * README.md says how it is built and run; notices.stdout is what it prints. */
+#include <pagozkin.h>
+#include <stdio.h>
+#include <string.h>
+
+#define MEMORY 512
+#define FRAME 256
+
+/* The board, and a buffer for its replies: "memory plus 64". */
+static pagozkin_settings settings;
+static uint8_t memory[MEMORY];
+static uint8_t reply[MEMORY + 64];
+
+/* A frame for every sign ("Z00"), summed, with one command. */
+static size_t write_frame(char command, const char *text, uint8_t out[FRAME])
+{
+    pagozkin_written w = pagozkin_write(PAGOZKIN_SUMMED_FORM, (const uint8_t *)"Z00", 3, (uint8_t)command,
+                                        (const uint8_t *)text, strlen(text), out, FRAME);
+    printf("write %c: %u, %zu bytes\n", command, w.number, w.length);
+    return w.length;
+}
+
+/* The blocks of a frame, one by one. Those of a printable frame stand in the room. */
+static void list_blocks(const uint8_t *frame, size_t length)
+{
+    static uint8_t room[PAGOZKIN_ROOM];
+    pagozkin_places p = pagozkin_read(frame, length, room);
+    if (p.number != PAGOZKIN_DONE)
+        return;
+    const uint8_t *bytes = p.printable ? room : frame;
+    size_t at = p.body;
+    pagozkin_block b;
+    do {
+        b = pagozkin_step(bytes, p.length, at);
+        printf("  %c, %zu bytes of data\n", b.command, b.to - b.from);
+        at = b.next;
+    } while (b.kind == PAGOZKIN_MORE);
+}
+
+/* Runs a frame on the board and keeps the next settings. */
+static size_t run(const uint8_t *frame, size_t length)
+{
+    pagozkin_answer a = pagozkin_run(settings, memory, MEMORY, reply, sizeof reply, frame, length);
+    settings = a.settings;
+    printf("run: %u, done %u, refused %u\n", a.number, a.tally.done, a.tally.refused);
+    return a.tally.length;
+}
+
+/* What can be printed as it stands, the rest in hex. */
+static void print_bytes(const uint8_t *bytes, size_t length)
+{
+    for (size_t i = 0; i < length; i++)
+        printf(0x20 <= bytes[i] && bytes[i] <= 0x7E ? "%c" : "<%02X>", bytes[i]);
+    printf("\n");
+}
+
+int main(void)
+{
+    uint8_t first[FRAME], second[FRAME], joined[FRAME];
+
+    pagozkin_made made = pagozkin_fresh('C', memory, MEMORY);
+    settings = made.settings;
+    printf("fresh: %u\n", made.number);
+
+    run(first, write_frame('E', "$AAU0040FF00BAU0040FF00", first));
+
+    size_t m = write_frame('A', "ALEVEL 2 IS FULL", first);
+    size_t n = write_frame('A', "BPERMITS: RENEW BY FRIDAY", second);
+    pagozkin_written w = pagozkin_join(PAGOZKIN_SUMMED_FORM, first, m, second, n, joined, FRAME);
+    printf("join: %u, %zu bytes\n", w.number, w.length);
+    list_blocks(joined, w.length);
+    run(joined, w.length);
+
+    size_t length = run(first, write_frame('B', "B", first));
+    print_bytes(reply, length);
+    return 0;
+}

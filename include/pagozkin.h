@@ -1,0 +1,183 @@
+/* Pagozkin: what the board's firmware calls, for C99 and C++. The library is libport.a; its calls are proved.
+ * The words in quotation marks are those of the definition of the build.
+ *
+ * What C must see to, in every call:
+ * - a pointer is valid for as many bytes as the length behind it says (a length of 0 asks nothing of its pointer);
+ * - a buffer that is written (a pointer without const) shares no byte with another buffer of the call;
+ * - nothing else writes the buffers while the call runs, and the stack has room for it (PAGOZKIN_STACK_..).
+ * Nothing more: frames, boards, numbers and lengths may be anything, and each call does its own checking.
+ * No call keeps anything for the next one or takes memory of its own. The library calls memset and nothing else. */
+#ifndef PAGOZKIN_H
+#define PAGOZKIN_H
+
+#include <stddef.h>
+#include <stdint.h>
+
+#ifdef __cplusplus
+extern "C" {
+#endif
+
+/* The numbers that come back. */
+enum {
+    PAGOZKIN_DONE = 0,             /* "frame run, written, re-formed or joined; fresh board made" */
+    PAGOZKIN_NOT_SOUND = 1,        /* "board not sound" */
+    PAGOZKIN_REPLY_TOO_SHORT = 2,  /* "reply buffer shorter than memory plus 64" */
+    PAGOZKIN_WRONG_LENGTH = 3,     /* "input empty, over 8,192 bytes standard or 24,576 printable, or over 8,192 translated" */
+    PAGOZKIN_WRONG_LEAD = 4,       /* "wrong first byte or lead" */
+    PAGOZKIN_BAD_PRINTABLE = 5,    /* "printable: bad escape or byte outside 20H to 7EH" */
+    PAGOZKIN_BAD_HEADER = 6,       /* "bad header, or "z"" */
+    PAGOZKIN_BAD_BODY = 7,         /* "bad body" */
+    PAGOZKIN_READ_NOT_LAST = 8,    /* "a read that is not last" */
+    PAGOZKIN_NOT_ADDRESSED = 9,    /* "not addressed" */
+    PAGOZKIN_WRONG_TYPE = 10,      /* "fresh board: wrong type" */
+    PAGOZKIN_WRONG_MEMORY = 11,    /* "wrong memory length" */
+    PAGOZKIN_HEADERS_DIFFER = 12,  /* "join: header texts differ" */
+    PAGOZKIN_FIRST_HAS_READ = 13,  /* "first frame has a read" */
+    PAGOZKIN_NO_ROOM = 14,         /* "output buffer too short" */
+    PAGOZKIN_WRONG_FORM = 15,      /* "form not 1, 2 or 3" */
+    PAGOZKIN_BYTE_TOO_LOW = 16,    /* "command or data byte below 05H" */
+    PAGOZKIN_WRONG_SUM = 17,       /* "input has a wrong checksum" */
+    PAGOZKIN_TOO_LONG = 18         /* "result over 8,192 translated bytes or 64 blocks" */
+};
+
+/* "20 to 27 concern one block; the frame's number is 0." */
+enum {
+    PAGOZKIN_BLOCK_WRONG_CHECKSUM = 20, /* "block: wrong checksum" */
+    PAGOZKIN_BLOCK_UNKNOWN = 21,        /* "unknown command byte or function label" */
+    PAGOZKIN_BLOCK_MALFORMED = 22,      /* "data missing, in excess, or malformed" */
+    PAGOZKIN_BLOCK_NO_FILE = 23,        /* "no file of that label and type" */
+    PAGOZKIN_BLOCK_TOO_LONG = 24,       /* "message longer than SIZE" */
+    PAGOZKIN_BLOCK_BAD_RECORD = 25,     /* ""$": bad record, count or length" */
+    PAGOZKIN_BLOCK_LABEL_TWICE = 26,    /* "label twice" */
+    PAGOZKIN_BLOCK_NO_ROOM = 27         /* "no room" */
+};
+
+/* The three forms of a frame. */
+enum {
+    PAGOZKIN_PLAIN_FORM = 1,    /* "blocks parted by ETX, EOT straight after the last data" */
+    PAGOZKIN_SUMMED_FORM = 2,   /* "the same with ETX and checksum on each block" */
+    PAGOZKIN_PRINTABLE_FORM = 3 /* "form 2 without the NULs, bytes below 20H, above 7EH and 5FH as escapes" */
+};
+
+/* "Settings travel as one record, handed in and handed back". */
+typedef struct pagozkin_settings {
+    uint8_t hour;    /* 0 to 23 */
+    uint8_t minute;  /* 0 to 59 */
+    uint8_t month;   /* "month 01 to 12" */
+    uint8_t day;     /* "day 01 to 31" */
+    uint8_t year;    /* 0 to 99 */
+    uint8_t format;  /* time format, "S" or "M" */
+    uint8_t speaker; /* 1 on, 0 off */
+    uint8_t address; /* serial address, "Any address 00 to FF is in range." */
+    uint8_t own;     /* own type, "one of Table 4's codes" */
+    uint8_t files;   /* "0 to 64 files" */
+} pagozkin_settings;
+
+/* "A run returns a number, blocks done, blocks refused, .." */
+typedef struct pagozkin_tally {
+    uint8_t done;    /* "blocks done" */
+    uint8_t refused; /* "blocks refused" */
+    uint8_t place;   /* "the place (from 1) .. of the first refused block", "0 if none" */
+    uint8_t first;   /* "and number of the first refused block", "0 if none" */
+    size_t length;   /* "the reply's length", 0 "where there is no reply" */
+} pagozkin_tally;
+
+/* The outcome of a run. */
+typedef struct pagozkin_answer {
+    uint8_t number;             /* 0, or 1 to 9: "board and buffers untouched, everything else returned is 0" */
+    pagozkin_tally tally;
+    pagozkin_settings settings; /* the next settings; with 1 to 9 those handed in */
+} pagozkin_answer;
+
+/* The outcome of making a fresh board. */
+typedef struct pagozkin_made {
+    uint8_t number;             /* 0, 10 or 11 */
+    pagozkin_settings settings; /* "from 10 or 11 all zero" */
+} pagozkin_made;
+
+/* The outcome of writing, re-forming or joining. */
+typedef struct pagozkin_written {
+    uint8_t number; /* 0, or a refusal: "output .. untouched, length 0" */
+    size_t length;  /* "The result starts the output buffer; .. its length is returned." */
+} pagozkin_written;
+
+/* Where header and blocks of a frame stand. */
+typedef struct pagozkin_places {
+    uint8_t number;    /* 0, or 3 to 8 with everything else 0 */
+    uint8_t printable; /* 1: the bytes that the frame stands for are at the start of the room; 0: they are the frame itself */
+    size_t length;     /* how many they are */
+    size_t header;     /* where the header starts among them; it ends where the body starts */
+    size_t body;       /* where the first block's STX is among them */
+} pagozkin_places;
+
+/* What stands at a place of a frame. */
+enum {
+    PAGOZKIN_NO_BLOCK = 0, /* no good block */
+    PAGOZKIN_MORE = 1,     /* a block, another one behind it */
+    PAGOZKIN_LAST = 2      /* the last block */
+};
+
+/* "A block is STX, a command byte, data." */
+typedef struct pagozkin_block {
+    uint8_t kind;    /* one of the three above; with PAGOZKIN_NO_BLOCK the rest but next is 0 */
+    uint8_t command; /* its command byte */
+    uint8_t right;   /* 0: it has a checksum, and a wrong one; else 1 */
+    size_t from;     /* where its data start */
+    size_t to;       /* where they end: the first byte behind them */
+    size_t next;     /* where the next block starts, or the end of the bytes */
+} pagozkin_block;
+
+/* Bytes that a printable frame stands for, at most. */
+#define PAGOZKIN_ROOM 8192
+
+/* Stack in bytes that a call needs, those of the C library's memset included, as libport.a stands (x86-64). */
+#define PAGOZKIN_STACK_FRESH 512
+#define PAGOZKIN_STACK_IS_SOUND 512
+#define PAGOZKIN_STACK_RUN 9728
+#define PAGOZKIN_STACK_WRITE 512
+#define PAGOZKIN_STACK_REFORM 9216
+#define PAGOZKIN_STACK_JOIN 17920
+#define PAGOZKIN_STACK_READ 512
+#define PAGOZKIN_STACK_STEP 512
+
+/* "A fresh board has 00:00, 01 01 00, format S, speaker off, address 00, no files, memory all zero." 0, 10 or 11.
+ * C must see to: memory valid for memory_len bytes. */
+pagozkin_made pagozkin_fresh(uint8_t own, uint8_t *memory, size_t memory_len);
+
+/* "A board is sound when all this holds": 1 if it is, 0 if not.
+ * C must see to: memory valid for memory_len bytes. */
+uint8_t pagozkin_is_sound(pagozkin_settings settings, const uint8_t *memory, size_t memory_len);
+
+/* "running one frame on a board": 0, or 1 to 9. A reply "stands at the start of the reply buffer; nothing after it is touched".
+ * C must see to: memory, reply and frame valid for their lengths, and no byte in two of them. */
+pagozkin_answer pagozkin_run(pagozkin_settings settings, uint8_t *memory, size_t memory_len, uint8_t *reply, size_t reply_len,
+                             const uint8_t *frame, size_t frame_len);
+
+/* "writing a one-command frame": 0, 15, 6, 16, 18 or 14. header is the header's text, text the command's data.
+ * C must see to: header, text and out valid for their lengths, and no byte of out in the others. */
+pagozkin_written pagozkin_write(uint8_t form, const uint8_t *header, size_t header_len, uint8_t command, const uint8_t *text,
+                                size_t text_len, uint8_t *out, size_t out_len);
+
+/* "putting a frame into another form (re-forming)": 0, 15, 3 to 8, 17, 18 or 14.
+ * C must see to: frame and out valid for their lengths, and no byte of out in frame. */
+pagozkin_written pagozkin_reform(uint8_t form, const uint8_t *frame, size_t frame_len, uint8_t *out, size_t out_len);
+
+/* "Joining puts the second frame's blocks after the first's under the common header.": 0, 15, 3 to 8, 17, 12, 13, 18 or 14.
+ * C must see to: first, second and out valid for their lengths, and no byte of out in the others. */
+pagozkin_written pagozkin_join(uint8_t form, const uint8_t *first, size_t first_len, const uint8_t *second, size_t second_len,
+                               uint8_t *out, size_t out_len);
+
+/* "How a frame reads": 0, or 3 to 8, and where its blocks start. A standard frame leaves the room untouched.
+ * C must see to: frame valid for frame_len bytes, room for PAGOZKIN_ROOM, and no byte in both. */
+pagozkin_places pagozkin_read(const uint8_t *frame, size_t frame_len, uint8_t room[PAGOZKIN_ROOM]);
+
+/* "The blocks are taken by a reader that remembers the frame and its place in it.": the block at a place, at first places.body,
+ * then block.next as long as kind is PAGOZKIN_MORE. bytes are the frame, or those in the room, places.length of them.
+ * C must see to: bytes valid for bytes_len bytes; at may be any number. */
+pagozkin_block pagozkin_step(const uint8_t *bytes, size_t bytes_len, size_t at);
+
+#ifdef __cplusplus
+}
+#endif
+
+#endif

@@ -1,0 +1,157 @@
+/* Each field of each struct of pagozkin.h, by name, after calls that give every field of a struct another value;
+ * and each call with empty slices. */
+#include <pagozkin.h>
+#include <stdio.h>
+#include <string.h>
+
+#define MEMORY 512
+
+static uint8_t memory[MEMORY];
+static uint8_t reply[MEMORY + 64];
+static uint8_t room[PAGOZKIN_ROOM];
+static int faults;
+
+static void is(const char *name, size_t value, size_t expected)
+{
+    if (value != expected) {
+        printf("%s is %zu and not %zu\n", name, value, expected);
+        faults++;
+    }
+}
+
+#define IS(field, expected) is(#field, field, expected)
+#define BYTES(text) (const uint8_t *)(text), sizeof(text) - 1
+
+/* Six settings are set, two blocks of an unknown command refused (the first at place 3), the time is read. */
+static const char every_setting[] = "\0\0\0\0\0\001Z00"
+                                    "\002E 1234\003"
+                                    "\002E;050607\003"
+                                    "\002X\003"
+                                    "\002X\003"
+                                    "\002E'M\003"
+                                    "\002E!00\003"
+                                    "\002E71F\003"
+                                    "\002E$AAU0010FF00BAU0010FF00\003"
+                                    "\002F \004";
+
+static pagozkin_settings board(void)
+{
+    pagozkin_made made = pagozkin_fresh('Q', memory, MEMORY);
+    IS(made.number, PAGOZKIN_WRONG_TYPE);
+    IS(made.settings.month, 0);
+    made = pagozkin_fresh('C', memory, MEMORY);
+    IS(made.number, PAGOZKIN_DONE);
+    IS(made.settings.month, 1);
+    IS(made.settings.day, 1);
+    IS(made.settings.format, 'S');
+    IS(made.settings.own, 'C');
+    return made.settings;
+}
+
+static void runs(void)
+{
+    pagozkin_settings fresh = board();
+    pagozkin_answer a = pagozkin_run(fresh, memory, MEMORY, reply, sizeof reply, BYTES(every_setting));
+    IS(a.number, PAGOZKIN_DONE);
+    IS(a.tally.done, 7);
+    IS(a.tally.refused, 2);
+    IS(a.tally.place, 3);
+    IS(a.tally.first, PAGOZKIN_BLOCK_UNKNOWN);
+    IS(a.tally.length, 37);
+    IS(a.settings.hour, 12);
+    IS(a.settings.minute, 34);
+    IS(a.settings.month, 5);
+    IS(a.settings.day, 6);
+    IS(a.settings.year, 7);
+    IS(a.settings.format, 'M');
+    IS(a.settings.speaker, 1);
+    IS(a.settings.address, 0x1F);
+    IS(a.settings.own, 'C');
+    IS(a.settings.files, 2);
+    is("a sound board", pagozkin_is_sound(a.settings, memory, MEMORY), 1);
+
+    pagozkin_settings late = a.settings;
+    late.hour = 24;
+    is("a board at 24:34", pagozkin_is_sound(late, memory, MEMORY), 0);
+    a = pagozkin_run(late, memory, MEMORY, reply, sizeof reply, BYTES(every_setting));
+    IS(a.number, PAGOZKIN_NOT_SOUND);
+    IS(a.tally.done, 0);
+    IS(a.settings.hour, 24);
+    IS(a.settings.minute, 34);
+}
+
+static void writes(void)
+{
+    uint8_t out[64], again[64];
+    pagozkin_written w = pagozkin_write(PAGOZKIN_SUMMED_FORM, BYTES("Z00"), 'A', BYTES("AHELLO"), out, 8);
+    IS(w.number, PAGOZKIN_NO_ROOM);
+    IS(w.length, 0);
+    w = pagozkin_write(PAGOZKIN_SUMMED_FORM, BYTES("Z00"), 'A', BYTES("AHELLO"), out, sizeof out);
+    IS(w.number, PAGOZKIN_DONE);
+    IS(w.length, 23);
+    is("the frame that was written", (size_t)memcmp(out, "\0\0\0\0\0\001Z00\002AAHELLO\00301FB\004", 23), 0);
+    w = pagozkin_reform(PAGOZKIN_PRINTABLE_FORM, out, 23, again, sizeof again);
+    IS(w.number, PAGOZKIN_DONE);
+    IS(w.length, 26);
+    is("the printable frame", (size_t)memcmp(again, "_01Z00_02AAHELLO_0301FB_04", 26), 0);
+    w = pagozkin_join(PAGOZKIN_PLAIN_FORM, out, 23, again, 26, room, sizeof room);
+    IS(w.number, PAGOZKIN_DONE);
+    IS(w.length, 27);
+    is("the joined frame", (size_t)memcmp(room, "\0\0\0\0\0\001Z00\002AAHELLO\003\002AAHELLO\004", 27), 0);
+}
+
+static void reads(void)
+{
+    pagozkin_places p = pagozkin_read(BYTES("_01_01Z00_02AAHI_030000_02ABYE_04"), room);
+    IS(p.number, PAGOZKIN_DONE);
+    IS(p.printable, 1);
+    IS(p.length, 21);
+    IS(p.header, 2);
+    IS(p.body, 5);
+    pagozkin_block b = pagozkin_step(room, p.length, p.body);
+    IS(b.kind, PAGOZKIN_MORE);
+    IS(b.command, 'A');
+    IS(b.right, 0);
+    IS(b.from, 7);
+    IS(b.to, 10);
+    IS(b.next, 15);
+    b = pagozkin_step(room, p.length, b.next);
+    IS(b.kind, PAGOZKIN_LAST);
+    IS(b.command, 'A');
+    IS(b.right, 1);
+    IS(b.from, 17);
+    IS(b.to, 20);
+    IS(b.next, 21);
+    b = pagozkin_step(room, p.length, 6);
+    IS(b.kind, PAGOZKIN_NO_BLOCK);
+    IS(b.next, 21);
+    p = pagozkin_read(BYTES("_0a"), room);
+    IS(p.number, PAGOZKIN_BAD_PRINTABLE);
+    IS(p.length, 0);
+}
+
+/* A length of 0 asks nothing of its pointer. */
+static void empties(void)
+{
+    uint8_t out[16];
+    pagozkin_settings s = board();
+    is("fresh of nothing", pagozkin_fresh('C', NULL, 0).number, PAGOZKIN_WRONG_MEMORY);
+    is("is_sound of nothing", pagozkin_is_sound(s, NULL, 0), 0);
+    is("run on nothing", pagozkin_run(s, NULL, 0, NULL, 0, NULL, 0).number, PAGOZKIN_NOT_SOUND);
+    is("run of nothing", pagozkin_run(s, memory, MEMORY, reply, sizeof reply, NULL, 0).number, PAGOZKIN_WRONG_LENGTH);
+    is("write of no header", pagozkin_write(1, NULL, 0, 'A', NULL, 0, NULL, 0).number, PAGOZKIN_BAD_HEADER);
+    is("write of no data", pagozkin_write(1, BYTES("Z00"), 'A', NULL, 0, out, sizeof out).length, 12);
+    is("reform of nothing", pagozkin_reform(1, NULL, 0, NULL, 0).number, PAGOZKIN_WRONG_LENGTH);
+    is("join of nothing", pagozkin_join(1, NULL, 0, NULL, 0, NULL, 0).number, PAGOZKIN_WRONG_LENGTH);
+    is("read of nothing", pagozkin_read(NULL, 0, room).number, PAGOZKIN_WRONG_LENGTH);
+    is("step over nothing", pagozkin_step(NULL, 0, 0).kind, PAGOZKIN_NO_BLOCK);
+}
+
+int main(void)
+{
+    runs();
+    writes();
+    reads();
+    empties();
+    return faults != 0;
+}
