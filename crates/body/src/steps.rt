@@ -12,9 +12,9 @@ use octets::slices::plain_run;
 ghost use mathlib.Core.Path.{_≡_};
 ghost use mathlib.Core.Bool.{_||_};
 ghost use Prim.Native.Nat.{_+_, _≤_};
-ghost use lib.ListN.{length, drop};
-ghost use Rattle.octets.specs.Choice.{_is_, front};
-ghost use Rattle.octets.specs.Bytes.{STX, EOT, isPlain};
+ghost use lib.ListN.{drop};
+ghost use Rattle.octets.specs.Choice.{_is_};
+ghost use Rattle.octets.specs.Bytes.{STX, EOT};
 ghost use Rattle.body.specs.Body.{block, isEnd, follow, afterEtx, afterData};
 ghost use Rattle.body.specs.Steps.{part, Inside, placed, foundAt};
 

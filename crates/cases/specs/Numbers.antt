@@ -7,9 +7,9 @@ use Rattle.octets.specs.Choice.{_is_}
 use Rattle.octets.specs.Buffer.{zeros}
 use Rattle.board.specs.Settings.{settings}
 use Rattle.board.specs.declared.Settings.{Settings}
-use Rattle.forms.specs.Writing.{write}
-use Rattle.forms.specs.Reforming.{reform}
-use Rattle.forms.specs.Joining.{join}
+use Rattle.writing.specs.Writing.{write}
+use Rattle.writing.specs.Reforming.{reform}
+use Rattle.writing.specs.Joining.{join}
 use Rattle.sign.specs.Run.{run}
 use Rattle.sign.specs.Fresh.{fresh}
 use Rattle.sheet.specs.Sheet.{bytes, start, inTurn}

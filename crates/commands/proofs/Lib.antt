@@ -1,13 +1,6 @@
--- Laws of the commands: what each does to files and settings, and what every command keeps.
-pub mod Messages
-pub mod Records
-pub mod Listing
-pub mod Laying
+-- Laws of the commands: what each does to files and settings, and what the functions go by.
 pub mod Replacing
-pub mod Changes
 pub mod ReplyLengths
-pub mod Keeping
-pub mod Untouched
 pub mod Around
 pub mod Outcomes
 pub mod Puts

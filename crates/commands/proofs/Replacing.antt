@@ -2,12 +2,12 @@
 use Prim.Native.Nat.{ℕ, _/_, _≤_, _<_}
 use mathlib.Core.Path.{_≡_, refl, sym, _∙_}
 use mathlib.Core.List.{List}
-use mathlib.Core.Bool.{Bool, true, false, not}
+use mathlib.Core.Bool.{true}
 use native.Mathlib.Omega.{arith}
 use mir.Syntax.{w8}
 use mir.Val.{Fits}
 use borrow.Author.Needs.{needs}
-use borrow.Author.Tests.{lt-ltb, le-ltb, ltb-false, not-true, not-false}
+use borrow.Author.Tests.{le-ltb, ltb-false}
 use lib.ListN.{length}
 use Rattle.octets.specs.Choice.{_<?_}
 use Rattle.octets.proofs.Tests.{by-test}
@@ -17,42 +17,13 @@ use Rattle.board.specs.Soundness.{sound}
 use Rattle.board.specs.declared.Settings.{Settings}
 use Rattle.board.proofs.Inside.{sound-most}
 use Rattle.commands.specs.Commands.{board, done, refuse}
-use Rattle.commands.specs.Configuration.{isRecords, labelsIn, needed, laid, configure}
-use Rattle.commands.specs.Doing.{refusal, doneAs, Acts, Listed}
+use Rattle.records.specs.Records.{isRecords, labelsIn, needed, laid}
+use Rattle.commands.specs.Configuration.{configure}
+use Rattle.records.specs.Filing.{refusal, Listed}
+use Rattle.commands.specs.Doing.{doneAs, Acts}
 use Rattle.commands.specs.declared.Done.{Done}
-use Rattle.commands.proofs.Records.{records-of}
+use Rattle.records.proofs.RecordLaws.{records-of}
 use Rattle.commands.proofs.Outcomes.{acts-refused, acts-done}
-
--- ---- why a list is refused
-
--- b says whether the records are as they have to be
-module _ (d : List ℕ) (room : ℕ) (b : Bool) (e : b ≡ isRecords 64 d) where
-  pub refusal-bad : not b ≡ true → 25 ≡ refusal d room
-  unfolding refusal
-  refusal-bad f = rw (← e, not-true b f)
-
-  -- c says whether their labels are distinct
-  module _ (f : not b ≡ false) (c : Bool) (g : c ≡ distinct (labelsIn (length d / 11) d)) where
-    pub refusal-twice : not c ≡ true → 26 ≡ refusal d room
-    unfolding refusal
-    refusal-twice h = rw (← e, not-false b f, ← g, not-true c h)
-
-    -- they take k bytes
-    module _ (h : not c ≡ false) (k : ℕ) (i : k ≡ needed (length d / 11) d) where
-      pub refusal-full : room < k → 27 ≡ refusal d room
-      unfolding refusal
-      refusal-full l = rw (← e, not-false b f, ← g, not-false c h, ← i, lt-ltb room k l)
-
-      pub refusal-none : k ≤ room → 0 ≡ refusal d room
-      unfolding refusal
-      refusal-none l = rw (← e, not-false b f, ← g, not-false c h, ← i, le-ltb room k l)
-
-pub refusal-few : (d : List ℕ) (b : Bool) → b ≡ isRecords 64 d → not b ≡ false → length d / 11 ≤ 64
-refusal-few d b e f = records-of 64 d (sym e ∙ not-false b f) .0
-
-pub ruleset refusing = (refusal-bad, refusal-twice, refusal-full, refusal-none, refusal-few, needs)
-
--- ---- what is done
 
 -- a list that is not refused
 record Taken (d : List ℕ) (room : ℕ) : Type 0 where

@@ -16,7 +16,6 @@ use octets::bytes::E;
 use octets::bytes::F;
 use octets::bytes::G;
 use octets::bytes::H;
-ghost use mathlib.Core.Path.{_≡_};
 ghost use Rattle.body.specs.Body.{block};
 ghost use Rattle.commands.specs.Commands.{board};
 ghost use Rattle.commands.specs.Blocks.{command, runBlock};

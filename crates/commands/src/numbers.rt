@@ -1,4 +1,4 @@
-// The numbers of a block.
+// The numbers of a block; 25 to 27 are those of a "$" list, in records.
 
 // "block: wrong checksum"
 pub const WRONG_CHECKSUM: u8 = 20;
@@ -14,10 +14,3 @@ pub const NO_FILE: u8 = 23;
 
 // "message longer than SIZE"
 pub const TOO_LONG: u8 = 24;
-
-// ""$": bad record, count or length; label twice; no room"
-pub const BAD_RECORD: u8 = 25;
-
-pub const LABEL_TWICE: u8 = 26;
-
-pub const NO_ROOM: u8 = 27;

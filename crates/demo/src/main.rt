@@ -2,7 +2,6 @@
 use libc::STDIN_FILENO;
 use libc::STDOUT_FILENO;
 use sign::Answer;
-use sign::Tally;
 use sign::fresh::fresh;
 use sign::run::run;
 

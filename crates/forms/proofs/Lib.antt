@@ -1,22 +1,3 @@
--- Laws of the definitions.
-pub mod Printing
-pub mod BodyBack
-pub mod FormBytes
-pub mod RoundTrip
-pub mod Limits
-pub mod Appending
-pub mod Succeeds
-pub mod Delivered
-pub mod Again
-pub mod Associates
-pub mod Instances
-pub mod Computing
+-- Laws of the three forms, and what the functions go by.
 pub mod PieceLaws
 pub mod Puttings
-pub mod Answers
-pub mod BlockWalks
-pub mod Results
-pub mod WriteLaws
-pub mod ReformLaws
-pub mod JoinLaws
-pub mod Unique

@@ -17,7 +17,6 @@ use Rattle.body.specs.Sum.{checksum}
 use Rattle.body.specs.Body.{Block}
 use Rattle.forms.specs.Forms.{isItself, escapeOf, escape, nuls, plainRest, plainBody, summedBody, bodyIn, formOf, render}
 use Rattle.forms.specs.Pieces.{inHex2, encode, parting, ending, piece, pieces, heading, headed}
-use Rattle.forms.proofs.Printing.{escape-length}
 
 -- ---- bytes as a form carries them
 
@@ -29,6 +28,14 @@ escape-append (x ∷ l) m =
       | true ↦ ap (λ r. x ∷ r) (escape-append l m)
       | false ↦ ap (λ r. escapeOf x ++ r) (escape-append l m)
     ]
+
+-- at most three bytes for one
+pub escape-length : (l : List ℕ) → length (escape l) ≤ 3 * length l
+unfolding escape
+escape-length [] = lit≤ tt
+escape-length (x ∷ l) =
+    choice (λ (r : List ℕ). length r ≤ 3 * length (x ∷ l)) (isItself x)
+    (λ e. omega (arith, escape-length l)) (λ e. omega (arith, escape-length l))
 
 -- one list behind the other
 pub encode-append : (form : ℕ) (l m : List ℕ) → encode form (l ++ m) ≡ encode form l ++ encode form m

@@ -1,7 +1,3 @@
--- "Three forms we write", and the calls that write them.
+-- "Three forms we write."
 pub mod Forms
-pub mod Output
-pub mod Writing
-pub mod Reforming
-pub mod Joining
 pub mod Pieces

@@ -8,14 +8,14 @@ use lib.ListN.{take}
 use Rattle.octets.specs.Choice.{isByte, all}
 use Rattle.body.specs.Body.{block}
 use Rattle.reading.specs.Reading.{frame, read}
-use Rattle.forms.specs.Output.{Output, output}
-use Rattle.forms.specs.Writing.{write}
-use Rattle.forms.specs.Reforming.{reform}
-use Rattle.forms.specs.Joining.{join}
-use Rattle.forms.specs.declared.Written.{Written}
-use Rattle.forms.proofs.Succeeds.{Joinable, join-if, join-only-if}
-use Rattle.forms.proofs.Delivered.{Holds, Joined, write-reads, join-reads}
-use Rattle.forms.proofs.Again.{reform-keeps}
+use Rattle.writing.specs.Output.{Output, output}
+use Rattle.writing.specs.Writing.{write}
+use Rattle.writing.specs.Reforming.{reform}
+use Rattle.writing.specs.Joining.{join}
+use Rattle.writing.specs.declared.Written.{Written}
+use Rattle.frame.proofs.Succeeds.{Joinable, join-if, join-only-if}
+use Rattle.frame.proofs.Delivered.{Holds, Joined, write-reads, join-reads}
+use Rattle.frame.proofs.Again.{reform-keeps}
 
 module _ (r : Written) (after : List ℕ) where
   -- the result: the first bytes of the buffer, as many as were answered

@@ -16,7 +16,7 @@ pub use header::addressing::addressed;
 pub use header::addressing::is_own_type;
 
 // Writing a one-command frame, putting a frame into another form, joining two frames.
-pub use forms::Written;
-pub use forms::joining::join;
-pub use forms::reforming::reform;
-pub use forms::writing::write;
+pub use writing::Written;
+pub use writing::joining::join;
+pub use writing::reforming::reform;
+pub use writing::writing::write;

@@ -7,9 +7,9 @@ use lib.ListN.{take}
 use Rattle.octets.specs.Choice.{if_then_else_, _is_}
 use Rattle.body.specs.Body.{Block}
 use Rattle.reading.specs.Reading.{frame, read}
-use Rattle.forms.specs.Output.{Output}
-use Rattle.forms.specs.Joining.{join}
-use Rattle.forms.proofs.Delivered.{Joined, join-reads, same-blocks}
+use Rattle.writing.specs.Output.{Output}
+use Rattle.writing.specs.Joining.{join}
+use Rattle.frame.proofs.Delivered.{Joined, join-reads, same-blocks}
 use Rattle.board.specs.declared.Settings.{Settings}
 use Rattle.sign.specs.Run.{Outcome, outcome, run}
 use Rattle.sign.specs.Packing.{setsNoAddress, next, Packed}

@@ -4,9 +4,9 @@ use mathlib.Core.Path.{_≡_}
 use mathlib.Core.Bool.{true}
 use mathlib.Core.List.{List}
 use Rattle.octets.specs.Choice.{isByte, all}
-use Rattle.forms.specs.Output.{output}
-use Rattle.forms.specs.Reforming.{reform}
-use Rattle.forms.specs.declared.Written.{Written}
+use Rattle.writing.specs.Output.{output}
+use Rattle.writing.specs.Reforming.{reform}
+use Rattle.writing.specs.declared.Written.{Written}
 use Rattle.frame.proofs.ReadBack.{result, reformed-back}
 use Rattle.board.specs.declared.Settings.{Settings}
 use Rattle.sign.specs.Run.{run}

@@ -5,9 +5,9 @@ use mathlib.Core.Bool.{true}
 use mathlib.Core.List.{List}
 use lib.ListN.{take}
 use Rattle.octets.specs.Choice.{if_then_else_, _is_, isByte, all}
-use Rattle.forms.specs.Output.{output}
-use Rattle.forms.specs.Joining.{join}
-use Rattle.forms.specs.declared.Written.{Written}
+use Rattle.writing.specs.Output.{output}
+use Rattle.writing.specs.Joining.{join}
+use Rattle.writing.specs.declared.Written.{Written}
 use Rattle.board.specs.declared.Settings.{Settings}
 use Rattle.sign.specs.Run.{outcome, run}
 use Rattle.sign.specs.declared.Answer.{Answer}

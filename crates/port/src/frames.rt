@@ -4,10 +4,10 @@ use frame::join;
 use frame::reform;
 use frame::write;
 ghost use mathlib.Core.Path.{_≡_};
-ghost use Rattle.forms.specs.Output.{output};
-ghost use Rattle.forms.specs.Writing.{write};
-ghost use Rattle.forms.specs.Reforming.{reform};
-ghost use Rattle.forms.specs.Joining.{join};
+ghost use Rattle.writing.specs.Output.{output};
+ghost use Rattle.writing.specs.Writing.{write};
+ghost use Rattle.writing.specs.Reforming.{reform};
+ghost use Rattle.writing.specs.Joining.{join};
 
 // Writes a one-command frame: 0, 15, 6, 16, 18 or 14.
 #[no_mangle]

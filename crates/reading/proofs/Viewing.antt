@@ -13,7 +13,7 @@ use Rattle.octets.specs.Buffer.{overlay}
 use Rattle.octets.proofs.Tests.{compare, choice, never, or-in}
 use Rattle.header.specs.Header.{isHeader}
 use Rattle.body.specs.Body.{Block, Body, badBody, body as bodyOf, blocks, readNotLast}
-use Rattle.body.specs.Steps.{part}
+use Rattle.body.specs.Steps.{part, blocksIn, isBody, bodyAt, blocksAt}
 use Rattle.reading.specs.Translation.{Translation, untranslated, translated, translate}
 use Rattle.reading.specs.Lead.{Led, misled, led, leadOf}
 use Rattle.reading.specs.Reading.{Reading, refused, frame, notStx, readBody, readHeader, readLed}
@@ -33,6 +33,16 @@ pub record Stands (t : List ℕ) (i j : ℕ) (r : Reading) : Type 0 where
   pub ordered : i ≤ j
   pub inside : j < length t
   pub short : length t ≤ 8192
+
+-- then its body is good, and these are its blocks
+module _ {t : List ℕ} {i j : ℕ} {r : Reading} (w : Stands t i j r) where
+  pub stands-good : bodyAt t j ≡ true
+  unfolding bodyAt isBody
+  stands-good = rw (w .body)
+
+  pub stands-frame : r ≡ frame (part i j t) (blocksAt t j)
+  unfolding blocksAt blocksIn
+  stands-frame = w .reads ∙ rw (w .body)
 
 -- ---- behind a lead that ends at place i
 

@@ -1,7 +1,7 @@
 // How a frame reads. The definitions are in specs/.
-pub mod lead;
+mod lead;
 pub mod reading;
-pub mod translation;
+mod translation;
 
 // What a reading answers: a number from 3 to 8; where header and body of a standard frame start;
 // or how many bytes of the room a printable frame stands for, and where header and body start among them.

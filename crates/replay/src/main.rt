@@ -1,15 +1,14 @@
 // Replays a stream of cases from standard input through the public calls, a line of output for each.
 // A case is a call byte and its arguments: a number is one byte, a string its length in two bytes, most significant first, and its bytes.
 ghost use Prim.Native.Nat.{_+_, _<_, _≤_};
-ghost use mathlib.Core.Path.{_≡_};
 ghost use lib.ListN.{length};
 ghost use Rattle.io.specs.Counts.{Counts};
 use board::Settings;
-use forms::Written;
 use libc::STDIN_FILENO;
 use libc::STDOUT_FILENO;
 use sign::Answer;
 use sign::Tally;
+use writing::Written;
 
 // What reading an argument finds: how many bytes it has, and whether the input held them all.
 struct Got {

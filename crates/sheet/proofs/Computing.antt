@@ -4,13 +4,14 @@ use Rattle.board.specs.Files.{sizeOf, filesOf, layout, heads, used, unused, lab
 use Rattle.board.specs.Soundness.{isLabel, isKind, isProtection, isSize, isStartCode, isStopCode, isCodes, isRecord, isContent, isFileAt, holdsFiles, soundMemory, sound}
 use Rattle.commands.specs.Reply.{replyOf}
 use Rattle.commands.specs.Commands.{holding, putMessage, writeFile, getContent, readFile}
-use Rattle.commands.specs.Configuration.{isRecords, labelsIn, neededBy, needed, sizeIn, stored, laid, configure}
+use Rattle.records.specs.Records.{isRecords, labelsIn, neededBy, needed, sizeIn, stored, laid}
+use Rattle.commands.specs.Configuration.{configure}
 use Rattle.commands.specs.Special.{setTime, setSpeaker, setFormat, setDate, setAddress, change, writeSpecial, tellTime, tellDate, tellSpeaker, tellPool, isTold, tell, readSpecial}
 use Rattle.commands.specs.Blocks.{command, runBlock}
 use Rattle.sign.specs.Run.{count, measure, onto, runBlocks, runFrame, run}
 use Rattle.sign.specs.Fresh.{fresh}
 use Rattle.sign.specs.Packing.{setsNoAddress, plus}
-use Rattle.forms.proofs.Computing.{writes}
+use Rattle.writing.proofs.Computing.{writes}
 
 -- who unfolds it lets every definition of the base compute
 unfoldable pub base : Unit {0}

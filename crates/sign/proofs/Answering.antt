@@ -8,12 +8,12 @@ use borrow.Author.Needs.{needs}
 use borrow.Author.Tests.{lt-ltb, le-ltb, not-false}
 use lib.ListN.{length, take}
 use Rattle.header.specs.Addressing.{addressed}
-use Rattle.body.specs.Steps.{part, isBody, bodyAt, blocksIn, blocksAt}
-use Rattle.reading.specs.Reading.{Reading, frame, read}
+use Rattle.body.specs.Steps.{part, blocksAt}
+use Rattle.reading.specs.Reading.{frame, read}
 use Rattle.reading.specs.Places.{Reads}
 use Rattle.reading.specs.declared.Read.{Read}
 use Rattle.reading.specs.declared.Read.the-variants.{Refused, Standard, Printable}
-use Rattle.reading.proofs.Viewing.{Stands, reads-refused, reads-standard, reads-printable, reads-within, reads-counts}
+use Rattle.reading.proofs.Viewing.{Stands, stands-good, stands-frame, reads-refused, reads-standard, reads-printable, reads-within, reads-counts}
 use Rattle.board.specs.Soundness.{sound}
 use Rattle.board.specs.declared.Settings.{Settings}
 use Rattle.commands.specs.Commands.{board}
@@ -42,15 +42,6 @@ module _ (s : Settings) (m o t : List ℕ) (i j : ℕ) (b : Bool) (e : b ≡ add
 pub ruleset framing = (untouched-as, frame-away, frame-ran, needs)
 
 -- ---- a whole run
-
--- where a frame stands, its body is good, and these are its blocks
-stands-good : {t : List ℕ} {i j : ℕ} {r : Reading} → Stands t i j r → bodyAt t j ≡ true
-unfolding bodyAt isBody
-stands-good w = rw (w .body)
-
-stands-frame : {t : List ℕ} {i j : ℕ} {r : Reading} → Stands t i j r → r ≡ frame (part i j t) (blocksAt t j)
-unfolding blocksAt blocksIn
-stands-frame w = rw (w .body) (w .reads)
 
 module _ (s : Settings) (m o f : List ℕ) (b : Bool) (e : b ≡ sound s m) where
   -- 1

@@ -22,7 +22,7 @@ use Rattle.commands.specs.Commands.{board}
 use Rattle.commands.specs.Blocks.{runBlock}
 use Rattle.commands.specs.Doing.{Does, Ready}
 use Rattle.commands.specs.declared.Done.{Done}
-use Rattle.commands.proofs.Keeping.{Sound, block-effects}
+use Rattle.keeping.proofs.Keeping.{Sound, block-effects}
 use Rattle.sign.specs.Run.{nothing, count, measure, State, state, onto, runBlocks}
 use Rattle.sign.specs.Running.{stateAs, Runnable, Running}
 use Rattle.sign.specs.declared.Tally.{Tally}

@@ -1,15 +1,16 @@
 -- What blocks and a whole run keep: own type, every length, a sound board sound; and a fresh board is sound.
 use Prim.Native.Nat.{ℕ, _+_, _≤_}
-use mathlib.Core.Path.{_≡_, refl, _∙_}
+use mathlib.Core.Path.{_≡_, refl, ap, _∙_}
 use mathlib.Core.List.{List, [], _∷_}
 use mathlib.Core.Bool.{true, false, not}
 use native.Mathlib.Omega.{arith}
-use lib.ListN.{length, length-append, length-drop}
+use lib.ListN.{length}
 use borrow.Author.Tests.{ltb-false, not-false, not-true}
 use Rattle.octets.specs.Choice.{_is_, _<?_}
 use Rattle.octets.specs.Buffer.{zeros, overlay}
 use Rattle.octets.proofs.Tests.{choice, split}
 use Rattle.octets.proofs.Buffers.{length-zeros}
+use Rattle.buffers.proofs.Splices.{overlay-none, length-overlay}
 use Rattle.header.specs.Addressing.{isOwnType, addressed}
 use Rattle.body.specs.Body.{Block, isRead}
 use Rattle.body.proofs.Plain.{Plain}
@@ -24,7 +25,7 @@ use Rattle.board.proofs.SoundParts.{whole, sound-whole}
 use Rattle.commands.specs.Commands.{board}
 use Rattle.commands.specs.Blocks.{runBlock}
 use Rattle.commands.specs.Special.{setsAddress}
-use Rattle.commands.proofs.Keeping.{Sound, block-effects}
+use Rattle.keeping.proofs.Keeping.{Sound, block-effects}
 use Rattle.sign.specs.Run.{nothing, count, measure, State, state, onto, runBlocks, Outcome, untouched, runFrame, run}
 use Rattle.sign.specs.Fresh.{Making, fresh}
 use Rattle.sign.specs.Packing.{setsNoAddress}
@@ -46,15 +47,7 @@ pub record Passed (ks : List Block) (st x : State) : Type 0 where
   pub address : setsNoAddress ks ≡ true → x .now .set .address ≡ st .now .set .address
   pub quiet : NoReads ks → (x .buffer ≡ st .buffer) × (x .counts .length ≡ st .counts .length)
 
-overlay-length : (d s : List ℕ) → length s ≤ length d → length (overlay d s) ≡ length d
-unfolding overlay
-overlay-length d s h = rw (length-append, length-drop) (omega arith)
-
 -- a block without a reply
-overlay-none : (d s : List ℕ) → s ≡ [] → overlay d s ≡ d
-unfolding overlay
-overlay-none d s e = rw e
-
 length-none : (t : Tally) (n : ℕ) (s : List ℕ) → s ≡ [] → measure (count t n) (length s) .length ≡ t .length
 unfolding measure count
 length-none t n s e =
@@ -75,7 +68,7 @@ run-passed (k ∷ ks) st =
       own = i .own ∙ f .own;
       memory = i .memory ∙ f .long;
       buffer = λ h.
-          let l = overlay-length (st .buffer) (x .reply) (omega (arith, f .fits)) in
+          let l = length-overlay (st .buffer) (x .reply) (omega (arith, f .fits)) in
           i .buffer (omega (arith, f .long, l)) ∙ l;
       sound = λ p s. i .sound (p .1) (f .sound (p .0 .following) s);
       address = λ n.
@@ -84,7 +77,7 @@ run-passed (k ∷ ks) st =
       quiet = λ n.
           let r = f .quiet (n .0) in
           let q = i .quiet (n .1) in
-          (q .0 ∙ overlay-none (st .buffer) (x .reply) r, q .1 ∙ length-none (st .counts) (x .number) (x .reply) r);
+          (q .0 ∙ ap (overlay (st .buffer)) r ∙ overlay-none (st .buffer), q .1 ∙ length-none (st .counts) (x .number) (x .reply) r);
     }
 
 -- ---- a whole run

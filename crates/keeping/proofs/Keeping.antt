@@ -1,0 +1,274 @@
+-- What every command keeps: own type and memory's length; a sound board sound; the address and memory where they are not set;
+-- files that it does not name; the reply buffer where it is no read. One walk over the commands gives all of it.
+use Prim.Native.Nat.{ℕ, _+_, _≤_}
+use mathlib.Core.Path.{_≡_, refl, sym, ap, _∙_}
+use mathlib.Core.List.{List, [], _∷_}
+use mathlib.Core.Bool.{Bool, true, false, not, _&&_, _||_}
+use native.Mathlib.Omega.{arith}
+use lib.ListN.{length}
+use borrow.Author.Tests.{ltb-false, eqb-true, not-false}
+use Rattle.octets.specs.Choice.{_is_, _isn't_, _<?_, _!_, none, all}
+use Rattle.octets.specs.Bytes.{A, B, E, F, G, H, isPlain}
+use Rattle.octets.proofs.Tests.{choice, never}
+use Rattle.octets.proofs.Lists.{all-tail}
+use Rattle.body.specs.Body.{Block, isRead}
+use Rattle.board.specs.declared.Found.{Found}
+use Rattle.board.specs.declared.Found.the-variants.{At, Nothing}
+use Rattle.board.specs.declared.Settings.{Settings}
+use Rattle.board.specs.Settings.{withFiles}
+use Rattle.board.specs.Files.{TEXT, STRING, FILES, File, filesOf, distinct}
+use Rattle.board.specs.Soundness.{holdsFiles, soundMemory, sound}
+use Rattle.board.proofs.Ranges.{files-ranged}
+use Rattle.board.proofs.SoundParts.{parts, sound-parts, sound-whole}
+use Rattle.commands.specs.Commands.{Board, board, Effect, done, replied, refuse, findOn, holding}
+use Rattle.commands.specs.Commands.{putMessage, writeFile, getContent, readFile}
+use Rattle.records.specs.Records.{isRecords, recordsIn, labelsIn, needed, laid}
+use Rattle.commands.specs.Configuration.{configure}
+use Rattle.commands.specs.Special.{TIME, SPEAKER, FORMAT, DATE, ADDRESS, CONFIGURATION, setsAddress}
+use Rattle.commands.specs.Special.{setTime, setSpeaker, setFormat, setDate, setAddress, change}
+use Rattle.commands.specs.Special.{writeSpecial, isTold, readSpecial}
+use Rattle.commands.specs.Blocks.{command, runBlock}
+use Rattle.commands.specs.declared.Change.{Change}
+use Rattle.commands.specs.declared.Change.the-variants.{To, Malformed}
+use Rattle.keeping.proofs.Messages.{fileIn, content, put-others, holding-files, holding-length, holding-sound}
+use Rattle.records.proofs.RecordLaws.{laid-length, laid-sound}
+use Rattle.keeping.proofs.Changes.{KeptBy, time-keeps, date-keeps, format-keeps, speaker-keeps, address-keeps}
+use Rattle.commands.proofs.ReplyLengths.{told-fits, content-fits}
+
+-- a sound board
+abbrev pub Sound : Board → Type 0
+Sound b = sound (b .set) (b .memory) ≡ true
+
+-- a board whose memory holds its files as it has to
+abbrev pub Holds : Board → Type 0
+Holds b = holdsFiles (b .set .files) (b .memory) ≡ true
+
+-- the file of a board at place k, counted from 0
+abbrev pub fileOf : Board → ℕ → File
+fileOf b k = fileIn (filesOf (b .set .files) (b .memory)) k
+
+-- they replace all files
+abbrev pub configures : ℕ → List ℕ → Bool
+configures c d = c is E && d ! 0 is CONFIGURATION
+
+-- they may write to memory
+abbrev pub writes : ℕ → List ℕ → Bool
+writes c d = configures c d || c is A || c is G
+
+-- what an effect of a command with these data keeps
+pub record Effects (b : Board) (c : ℕ) (d : List ℕ) (e : Effect) : Type 0 where
+  pub own : e .after .set .own ≡ b .set .own
+  pub long : length (e .after .memory) ≡ length (b .memory)
+  pub sound : all isPlain d ≡ true → Sound b → Sound (e .after)
+  pub address : setsAddress c d ≡ false → e .after .set .address ≡ b .set .address
+  pub files : configures c d ≡ false → e .after .set .files ≡ b .set .files
+  pub memory : writes c d ≡ false → e .after .memory ≡ b .memory
+  pub others : configures c d ≡ false → all isPlain d ≡ true → Holds b →
+      (k : ℕ) → (fileOf b k .head ! 0 ≡ d ! 0 → ⊥) → fileOf (e .after) k ≡ fileOf b k
+  pub refused : (e .number ≡ 0 → ⊥) → (e .after ≡ b) × (e .reply ≡ [])
+  pub quiet : isRead c ≡ false → e .reply ≡ []
+  pub fits : length (e .reply) ≤ length (b .memory) + 64
+
+module _ (b : Board) (c : ℕ) where
+  -- a command that leaves the board as it was
+  stays : (d : List ℕ) (n : ℕ) (r : List ℕ) → ((n ≡ 0 → ⊥) → r ≡ []) → (isRead c ≡ false → r ≡ []) →
+      length r ≤ length (b .memory) + 64 → Effects b c d (record { number = n; after = b; reply = r })
+  stays d n r x y f =
+      record {
+        own = refl;
+        long = refl;
+        sound = λ p s. s;
+        address = λ n. refl;
+        files = λ n. refl;
+        memory = λ n. refl;
+        others = λ n p s k o. refl;
+        refused = λ n. (refl, x n);
+        quiet = y;
+        fits = f;
+      }
+
+  -- a command that is refused
+  refuses : (d : List ℕ) (n : ℕ) → Effects b c d (refuse n b)
+  refuses d n = stays d n [] (λ n. refl) (λ n. refl) (omega arith)
+
+  -- a read that is answered
+  replies : (d r : List ℕ) → isRead c ≡ true → length r ≤ length (b .memory) + 64 → Effects b c d (replied b r)
+  replies d r t f = stays d 0 r (λ n. absurd (n refl)) (λ n. never (sym t ∙ n)) f
+
+  -- ---- A and G
+  puts : (label kind : ℕ) (msg : List ℕ) → writes c (label ∷ msg) ≡ true →
+      Effects b c (label ∷ msg) (putMessage b (findOn b label kind) msg)
+  unfolding putMessage
+  puts label kind msg w = go (findOn b label kind) refl
+    where
+      n : ℕ
+      n = b .set .files
+
+      m : List ℕ
+      m = b .memory
+
+      fit : (start size : ℕ) → findOn b label kind ≡ At start size → (size <? length msg) ≡ false →
+          Effects b c (label ∷ msg) (done (board (b .set) (holding m start size msg)))
+      fit start size e q =
+          let small : length msg ≤ size = ltb-false size (length msg) q in
+          record {
+            own = refl;
+            long = holding-length label kind n m start size msg e small;
+            sound = λ p s.
+                let t = sound-parts (b .set) m s in
+                sound-whole (b .set) (holding m start size msg) (t .0)
+                (holding-sound n m (t .1) label kind start size e msg small (all-tail isPlain label msg p));
+            address = λ n. refl;
+            files = λ n. refl;
+            memory = λ n. never (sym w ∙ n);
+            others = λ x p s k o.
+                ap (λ (fs : List File). fileIn fs k)
+                (holding-files n m s label kind start size e msg small (all-tail isPlain label msg p))
+                ∙ put-others (filesOf n m) label kind (content size msg) k o;
+            refused = λ n. absurd (n refl);
+            quiet = λ n. refl;
+            fits = omega arith;
+          }
+
+      go : (f : Found) → findOn b label kind ≡ f → Effects b c (label ∷ msg) (putMessage b f msg)
+      go Nothing e = refuses (label ∷ msg) 23
+      go (At start size) e =
+          choice (Effects b c (label ∷ msg)) (size <? length msg) (λ q. refuses (label ∷ msg) 24) (λ q. fit start size e q)
+
+  write-effects : (kind : ℕ) (d : List ℕ) → writes c d ≡ true → Effects b c d (writeFile kind b d)
+  unfolding writeFile
+  write-effects kind [] w = refuses [] 22
+  write-effects kind (label ∷ msg) w = puts label kind msg w
+
+  -- ---- B and H
+  gets : (code : ℕ) (d : List ℕ) (label : ℕ) (f : Found) → isRead c ≡ true → Effects b c d (getContent code b label f)
+  unfolding getContent
+  gets code d label Nothing t = refuses d 23
+  gets code d label (At start size) t = replies d _ t (content-fits code label (b .memory) start size)
+
+  read-effects : (kind code : ℕ) (d : List ℕ) → isRead c ≡ true → Effects b c d (readFile kind code b d)
+  unfolding readFile
+  read-effects kind code d t =
+      choice (Effects b c d) (length d isn't 1) (λ e. refuses d 22) (λ e. gets code d (d ! 0) (findOn b (d ! 0) kind) t)
+
+  -- ---- E
+  changes : (d : List ℕ) (x : Change) → KeptBy (setsAddress c d) (b .set) x → Effects b c d (change b x)
+  unfolding change
+  changes d Malformed k = refuses d 22
+  changes d (To t) k =
+      record {
+        own = k .own;
+        long = refl;
+        sound = λ p s.
+            let q = sound-parts (b .set) (b .memory) s in
+            sound-whole t (b .memory) (k .ranged (q .0)) (ap (λ (n : ℕ). soundMemory n (b .memory)) (k .files) ∙ q .1);
+        address = k .address;
+        files = λ n. k .files;
+        memory = λ n. refl;
+        others = λ x p s i o. ap (λ (n : ℕ). fileIn (filesOf n (b .memory)) i) (k .files);
+        refused = λ n. absurd (n refl);
+        quiet = λ n. refl;
+        fits = omega arith;
+      }
+
+  configure-effects : (label : ℕ) (d : List ℕ) → configures c (label ∷ d) ≡ true → Effects b c (label ∷ d) (configure b d)
+  unfolding configure
+  configure-effects label d w =
+      choice P (not (isRecords FILES d)) (λ e. refuses (label ∷ d) 25) (λ e.
+      choice P (not (distinct (labelsIn (recordsIn d) d))) (λ f. refuses (label ∷ d) 26) (λ f.
+      choice P (length (b .memory) <? needed (recordsIn d) d) (λ g. refuses (label ∷ d) 27) (λ g.
+      fit (not-false _ e) (not-false _ f) (ltb-false (length (b .memory)) (needed (recordsIn d) d) g))))
+    where
+      P : Effect → Type 0
+      P = Effects b c (label ∷ d)
+
+      n : ℕ
+      n = recordsIn d
+
+      m : List ℕ
+      m = b .memory
+
+      fit : isRecords FILES d ≡ true → distinct (labelsIn n d) ≡ true → needed n d ≤ length m →
+          P (done (board (withFiles (b .set) n) (laid n (length m) d)))
+      fit e f g =
+          record {
+            own = refl;
+            long = laid-length d e (length m) g;
+            sound = λ p s.
+                let q = sound-parts (b .set) m s in
+                sound-whole (withFiles (b .set) n) (laid n (length m) d) (files-ranged (b .set) (q .0) n)
+                (laid-sound d e (length m) g (parts (b .set .files) m (q .1) .long) f);
+            address = λ n. refl;
+            files = λ n. never (sym w ∙ n);
+            memory = λ n. never (sym (rw w) ∙ n);
+            others = λ n. never (sym w ∙ n);
+            refused = λ n. absurd (n refl);
+            quiet = λ n. refl;
+            fits = omega arith;
+          }
+
+  special-effects : (d : List ℕ) → (c is E) ≡ true → Effects b c d (writeSpecial b d)
+  unfolding writeSpecial
+  special-effects [] t = refuses [] 22
+  special-effects (label ∷ d) t =
+      choice P (label is TIME) (λ e. changes l (setTime s d) (time-keeps x s d)) (λ e.
+      choice P (label is SPEAKER) (λ e. changes l (setSpeaker s d) (speaker-keeps x s d)) (λ e.
+      choice P (label is FORMAT) (λ e. changes l (setFormat s d) (format-keeps x s d)) (λ e.
+      choice P (label is DATE) (λ e. changes l (setDate s d) (date-keeps x s d)) (λ e.
+      choice P (label is ADDRESS) (λ e. changes l (setAddress s d) (address-keeps x s d (rw (t, e)))) (λ e.
+      choice P (label is CONFIGURATION) (λ e. configure-effects label d (rw (t, e))) (λ e. refuses l 21))))))
+    where
+      l : List ℕ
+      l = label ∷ d
+
+      s : Settings
+      s = b .set
+
+      x : Bool
+      x = setsAddress c l
+
+      P : Effect → Type 0
+      P = Effects b c l
+
+  -- ---- F
+  tell-effects : (d : List ℕ) → isRead c ≡ true → Effects b c d (readSpecial b d)
+  unfolding readSpecial
+  tell-effects [] t = refuses [] 22
+  tell-effects (label ∷ d) t =
+      choice (Effects b c (label ∷ d)) (not (isTold label)) (λ e. refuses (label ∷ d) 21) (λ e.
+      choice (Effects b c (label ∷ d)) (not (none d)) (λ f. refuses (label ∷ d) 22) (λ f.
+      replies (label ∷ d) _ t (told-fits b label)))
+
+-- ---- the theorems
+
+-- a fact of one command byte holds of a byte that is it
+is-code : (P : ℕ → Bool) (c k : ℕ) → P k ≡ true → (c is k) ≡ true → P c ≡ true
+is-code P c k t e = ap P (eqb-true c k e) ∙ t
+
+-- every command, with any data, on any board
+pub command-effects : (b : Board) (c : ℕ) (d : List ℕ) → Effects b c d (command b c d)
+unfolding command isRead
+command-effects b c d =
+    choice P (c is A) (λ e. write-effects b c TEXT d (is-code w c A refl e)) (λ e.
+    choice P (c is G) (λ e. write-effects b c STRING d (is-code w c G refl e)) (λ e.
+    choice P (c is B) (λ e. read-effects b c TEXT A d (is-code isRead c B refl e)) (λ e.
+    choice P (c is H) (λ e. read-effects b c STRING G d (is-code isRead c H refl e)) (λ e.
+    choice P (c is E) (λ e. special-effects b c d e) (λ e.
+    choice P (c is F) (λ e. tell-effects b c d (is-code isRead c F refl e)) (λ e. refuses b c d 21))))))
+  where
+    P : Effect → Type 0
+    P = Effects b c d
+
+    w : ℕ → Bool
+    w x = writes x d
+
+-- every block
+pub block-effects : (b : Board) (k : Block) → Effects b (k .command) (k .text) (runBlock b k)
+unfolding runBlock
+block-effects b k =
+    choice (Effects b (k .command) (k .text)) (not (k .right)) (λ e. refuses b (k .command) (k .text) 20)
+    (λ e. command-effects b (k .command) (k .text))
+
+-- a command with plain data leaves a sound board sound
+pub command-keeps : (b : Board) (c : ℕ) (d : List ℕ) → all isPlain d ≡ true → Sound b → Sound (command b c d .after)
+command-keeps b c d p s = command-effects b c d .sound p s

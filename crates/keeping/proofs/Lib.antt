@@ -1,0 +1,5 @@
+-- What every command keeps.
+pub mod Messages
+pub mod Changes
+pub mod Keeping
+pub mod Untouched

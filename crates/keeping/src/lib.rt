@@ -1,0 +1,1 @@
+// What every command keeps: laws over the definitions of the commands, in proofs/.

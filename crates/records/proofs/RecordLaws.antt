@@ -1,0 +1,258 @@
+-- "$": the files that a list of records makes are as they have to be, so that the new memory is sound.
+use Prim.Native.Nat.{ℕ, zero, suc, _+_, _-_, _≤_, _<_}
+use mathlib.Core.Path.{_≡_, refl, sym, ap, ap₂, _∙_}
+use mathlib.Core.List.{List, [], _∷_, _++_}
+use mathlib.Core.Bool.{Bool, true, false, _||_}
+use native.Mathlib.Omega.{arith}
+use lib.ListN.{length, take, drop, length-append, length-drop}
+use borrow.Author.Tests.{le-leb, leb-true, eqb-true, eqb-false}
+use Rattle.octets.specs.Choice.{if_then_else_, _is_, _≤?_, between, _!_}
+use Rattle.octets.specs.Hex.{isHex2, hex2, isHex4, hex4, inHex4}
+use Rattle.octets.specs.Buffer.{zeros}
+use Rattle.octets.proofs.Tests.{by-test, never, split}
+use Rattle.octets.proofs.Digits.{isHex4-inHex4, hex4-inHex4}
+use Rattle.octets.proofs.Buffers.{eleven, length-zeros}
+use Rattle.board.specs.Files.{STRING, FILES, File, sizeOf, filesOf, layout, labels, distinct}
+use Rattle.board.specs.Soundness.{isLabel, isKind, isProtection, isSize, isStartCode, isStopCode, isCodes, isRecord}
+use Rattle.board.specs.Soundness.{holdsFiles, isMemory, soundMemory}
+use Rattle.board.proofs.Layouts.{AllValid, parse, holds}
+use Rattle.board.proofs.Contents.{zeros-nul, zeros-content}
+use Rattle.board.proofs.SoundParts.{whole}
+use Rattle.records.specs.Records.{isRecords, recordsIn, labelsIn, needed, neededBy, sizeIn, stored, laid}
+
+-- ---- n records, as they have to be
+
+abbrev pub Records : ℕ → List ℕ → Type 0
+Records zero d = length d ≡ 0
+Records (suc n) d = (11 ≤ length d) × (isRecord (length d is 11) d ≡ true) × Records n (drop 11 d)
+
+pub records-of : (n : ℕ) (d : List ℕ) → isRecords n d ≡ true → (recordsIn d ≤ n) × Records (recordsIn d) d
+unfolding isRecords
+records-of zero [] e = (omega arith, refl)
+records-of zero (x ∷ l) e = never (sym e)
+records-of (suc n) [] e = (omega arith, refl)
+records-of (suc n) (x ∷ l) e =
+    let d = x ∷ l in
+    let a = split (11 ≤? length d) e in
+    let b = split (isRecord (length d is 11) d) (a .1) in
+    let h : 11 ≤ length d = leb-true 11 (length d) (a .0) in
+    let r = records-of n (drop 11 d) (b .1) in
+    let z : suc (recordsIn (drop 11 d)) ≡ recordsIn d = rw (length-drop 11 d) (omega arith) in
+    (omega arith, rw (← z) (h, b .0, r .1))
+
+-- ---- the size of a record
+
+-- a size that a record of type t may have; the test says whether a TEXT's may be 0000
+abbrev pub isSized : Bool → ℕ → ℕ → Bool
+isSized zeroToo t v = if t is STRING then between 1 125 v else (zeroToo || 1 ≤? v)
+
+-- the tests of a record, one by one
+record-parts : (z : Bool) (d : List ℕ) → isRecord z d ≡ true →
+    (isLabel (d ! 0) ≡ true) × (isKind (d ! 1) ≡ true) × (isProtection (d ! 2) ≡ true)
+    × (isSized z (d ! 1) (sizeOf d) ≡ true) × (isCodes d ≡ true)
+unfolding isRecord isSize
+record-parts z d r =
+    let a = split (isLabel (d ! 0)) r in
+    let b = split (isKind (d ! 1)) (a .1) in
+    let c = split (isProtection (d ! 2)) (b .1) in
+    let f = split (isSize z d) (c .1) in
+    (a .0, b .0, c .0, split (isHex4 (drop 3 d)) (f .0) .1, f .1)
+
+-- a size that is not 0000 needs no leave
+sized-some : (z : Bool) (t v : ℕ) → 1 ≤ v → isSized z t v ≡ true → isSized false t v ≡ true
+sized-some z t v h e = by-test (t is STRING) (λ q. rw q (rw q at e)) (λ q. rw q (le-leb 1 v h))
+
+-- a size 0000 is that of a TEXT where it is allowed
+sized-none : (z : Bool) (t : ℕ) → isSized z t 0 ≡ true → ((t is STRING) ≡ false) × (z ≡ true)
+sized-none z t e = go (t is STRING) z e
+  where
+    go : (q z : Bool) → (if q then between 1 125 0 else (z || 1 ≤? 0)) ≡ true → (q ≡ false) × (z ≡ true)
+    go true z f = never (sym f)
+    go false true f = (refl, refl)
+    go false false f = never (sym f)
+
+-- ---- the record that is stored
+
+module _ (d : List ℕ) (e : 11 ≤ length d) (v : ℕ) where
+  pub stored-length : length (stored v d) ≡ 11
+  unfolding stored inHex4
+  stored-length = eleven (λ l. length (stored v l) ≡ 11) (λ a b c d e f g h i j k l. refl) d e
+
+  stored-start : (stored v d ! 0 ≡ d ! 0) × (stored v d ! 1 ≡ d ! 1) × (stored v d ! 2 ≡ d ! 2)
+  unfolding stored inHex4
+  stored-start =
+      eleven (λ l. (stored v l ! 0 ≡ l ! 0) × (stored v l ! 1 ≡ l ! 1) × (stored v l ! 2 ≡ l ! 2))
+      (λ a b c d e f g h i j k l. (refl, refl, refl)) d e
+
+  stored-codes : isCodes (stored v d) ≡ isCodes d
+  unfolding stored inHex4 isCodes isStartCode isStopCode isHex2 hex2
+  stored-codes = eleven (λ l. isCodes (stored v l) ≡ isCodes l) (λ a b c d e f g h i j k l. refl) d e
+
+  stored-digits : drop 3 (stored v d) ≡ inHex4 v ++ take 4 (drop 7 d)
+  unfolding stored inHex4
+  stored-digits = eleven (λ l. drop 3 (stored v l) ≡ inHex4 v ++ take 4 (drop 7 l)) (λ a b c d e f g h i j k l. refl) d e
+
+  module _ (h : v < 65536) where
+    stored-size : sizeOf (stored v d) ≡ v
+    unfolding sizeOf
+    stored-size = ap hex4 stored-digits ∙ hex4-inHex4 v h (take 4 (drop 7 d))
+
+    stored-record : (z : Bool) → isRecord z d ≡ true → isSized false (d ! 1) v ≡ true → isRecord false (stored v d) ≡ true
+    unfolding isRecord isSize
+    stored-record z r g =
+        let p = record-parts z d r in
+        rw (
+          stored-start .0,
+          stored-start .1,
+          stored-start .2,
+          stored-codes,
+          stored-size,
+          stored-digits,
+          isHex4-inHex4 v h (take 4 (drop 7 d)),
+          p .0,
+          p .1,
+          p .2,
+          p .4,
+          g,
+        )
+
+-- ---- the size that a record gets, and the room that it leaves
+
+pub record Gets (n room : ℕ) (d : List ℕ) : Type 0 where
+  pub fit : isSized false (d ! 1) (sizeIn room d) ≡ true
+  pub inside : 11 + sizeIn room d ≤ room
+  pub more : needed n (drop 11 d) ≤ room - (11 + sizeIn room d)
+
+none-left : (n : ℕ) (d : List ℕ) → length d ≡ 0 → Records n d → n ≡ 0
+none-left zero d e r = refl
+none-left (suc n) d e r = absurd (omega arith)
+
+pub gets : (n room : ℕ) (d : List ℕ) → Records (suc n) d → needed (suc n) d ≤ room → Gets n room d
+unfolding needed neededBy sizeIn
+gets n room d r h = by-test (sizeOf d is 0) all-of-it as-listed
+  where
+    part : isSized (length d is 11) (d ! 1) (sizeOf d) ≡ true
+    part = record-parts (length d is 11) d (r .1) .3
+
+    all-of-it : (sizeOf d is 0) ≡ true → Gets n room d
+    all-of-it q =
+        let t = sized-none (length d is 11) (d ! 1) (rw (eqb-true (sizeOf d) 0 q) at part) in
+        let l : length d ≡ 11 = eqb-true (length d) 11 (t .1) in
+        let n₀ : n ≡ 0 = none-left n (drop 11 d) (rw (length-drop 11 d) (omega arith)) (r .2) in
+        let k : 11 + 1 + needed n (drop 11 d) ≤ room = rw q at h in
+        record {
+          fit = simp (q, t .0, le-leb 1 (room - 11) (omega arith));
+          inside = simp q (omega arith);
+          more = simp (q, n₀) (omega arith);
+        }
+
+    as-listed : (sizeOf d is 0) ≡ false → Gets n room d
+    as-listed q =
+        let k : 11 + sizeOf d + needed n (drop 11 d) ≤ room = rw q at h in
+        let ne : (sizeOf d ≡ 0 → ⊥) = eqb-false (sizeOf d) 0 q in
+        let one : 1 ≤ sizeOf d = omega arith in
+        record {
+          fit = simp q (sized-some (length d is 11) (d ! 1) (sizeOf d) one part);
+          inside = simp q (omega arith);
+          more = simp q (omega arith);
+        }
+
+-- ---- the files of n records in so much room, and the room that they leave
+
+unfoldable newOf : ℕ → ℕ → List ℕ → List File
+newOf zero room d = []
+newOf (suc n) room d =
+    record { head = stored (sizeIn room d) d; body = zeros (sizeIn room d) } ∷ newOf n (room - (11 + sizeIn room d)) (drop 11 d)
+
+unfoldable roomAfter : ℕ → ℕ → List ℕ → ℕ
+roomAfter zero room d = room
+roomAfter (suc n) room d = roomAfter n (room - (11 + sizeIn room d)) (drop 11 d)
+
+laid-layout : (n room : ℕ) (d : List ℕ) → laid n room d ≡ layout (newOf n room d) (zeros (roomAfter n room d))
+unfolding laid layout newOf roomAfter
+laid-layout zero room d = refl
+laid-layout (suc n) room d = rw (laid-layout n (room - (11 + sizeIn room d)) (drop 11 d))
+
+new-count : (n room : ℕ) (d : List ℕ) → n ≡ length (newOf n room d)
+unfolding newOf
+new-count zero room d = refl
+new-count (suc n) room d = ap suc (new-count n (room - (11 + sizeIn room d)) (drop 11 d))
+
+new-valid : (n room : ℕ) (d : List ℕ) → Records n d → needed n d ≤ room → room ≤ 32768 → AllValid (newOf n room d)
+unfolding newOf
+new-valid zero room d r h l = tt
+new-valid (suc n) room d r h l =
+    let g = gets n room d r h in
+    let v = sizeIn room d in
+    let small : sizeIn room d < 65536 = omega (arith, g .inside) in (
+      record {
+        eleven = stored-length d (r .0) v;
+        right = stored-record d (r .0) v small (length d is 11) (r .1) (g .fit);
+        sized = stored-size d (r .0) v small ∙ sym (length-zeros v);
+        filled = zeros-content v;
+      },
+      new-valid n (room - (11 + v)) (drop 11 d) (r .2) (g .more) (omega arith),
+    )
+
+new-labels : (n room : ℕ) (d : List ℕ) → Records n d → labels (newOf n room d) ≡ labelsIn n d
+unfolding newOf labels labelsIn
+new-labels zero room d r = refl
+new-labels (suc n) room d r =
+    let v = sizeIn room d in
+    ap₂ _∷_ (stored-start d (r .0) v .0) (new-labels n (room - (11 + v)) (drop 11 d) (r .2))
+
+new-length : (n room : ℕ) (d : List ℕ) → Records n d → needed n d ≤ room → length (laid n room d) ≡ room
+unfolding laid
+new-length zero room d r h = length-zeros room
+new-length (suc n) room d r h =
+    let g = gets n room d r h in
+    let v = sizeIn room d in
+    let i = new-length n (room - (11 + v)) (drop 11 d) (r .2) (g .more) in
+    rw (length-append, length-append, stored-length d (r .0) v, length-zeros, i)
+    (omega (arith, g .inside))
+
+-- ---- the theorems, from what `configure` tests
+
+module _ (d : List ℕ) (ok : isRecords FILES d ≡ true) (room : ℕ) (h : needed (recordsIn d) d ≤ room) where
+  abbrev n : ℕ
+  n = recordsIn d
+
+  listed : Records n d
+  listed = records-of FILES d ok .1
+
+  -- the new memory fills the room
+  pub laid-length : length (laid (recordsIn d) room d) ≡ room
+  laid-length = new-length n room d listed h
+
+  module _ (l : isMemory room ≡ true) where
+    abbrev files : List File
+    files = newOf n room d
+
+    abbrev rest : List ℕ
+    rest = zeros (roomAfter n room d)
+
+    files-valid : AllValid files
+    files-valid = new-valid n room d listed h (leb-true room 32768 (split (64 ≤? room) l .1))
+
+    -- the new memory holds as many files as there are records, as it has to
+    pub laid-holds : holdsFiles (recordsIn d) (laid (recordsIn d) room d) ≡ true
+    laid-holds =
+        ap (holdsFiles n) (laid-layout n room d) ∙ ap (λ (k : ℕ). holdsFiles k (layout files rest)) (new-count n room d)
+        ∙ holds files rest files-valid ∙ zeros-nul (roomAfter n room d)
+
+    -- their labels are the records'
+    pub laid-labels : labels (filesOf (recordsIn d) (laid (recordsIn d) room d)) ≡ labelsIn (recordsIn d) d
+    laid-labels =
+        let p = ap (λ (k : ℕ). filesOf k (layout files rest)) (new-count n room d) ∙ parse files rest files-valid in
+        ap labels (ap (filesOf n) (laid-layout n room d) ∙ p) ∙ new-labels n room d listed
+
+    -- so the new memory is sound where the labels are distinct
+    pub laid-sound : distinct (labelsIn (recordsIn d) d) ≡ true → soundMemory (recordsIn d) (laid (recordsIn d) room d) ≡ true
+    laid-sound f =
+        whole n (laid n room d)
+        (record {
+          long = rw laid-length l;
+          few = le-leb n FILES (records-of FILES d ok .0);
+          held = laid-holds;
+          apart = ap distinct laid-labels ∙ f;
+        })

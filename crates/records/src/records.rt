@@ -1,0 +1,176 @@
+// "a list of 0 to 64 records": whether it is refused, and the files that it makes.
+use crate::numbers::BAD_RECORD;
+use crate::numbers::LABEL_TWICE;
+use crate::numbers::NO_ROOM;
+use board::files::FILES;
+use board::files::RECORD;
+use board::files::SIZE;
+use board::files::size_at;
+use board::soundness::is_record;
+use buffers::copying::copy_at;
+use buffers::copying::zero_at;
+use buffers::hex::put_four;
+ghost use mathlib.Core.Path.{_≡_};
+ghost use mathlib.Core.Bool.{true};
+ghost use Prim.Native.Nat.{_+_, _*_, _≤_};
+ghost use lib.ListN.{length, drop};
+ghost use Rattle.octets.specs.Choice.{among};
+ghost use Rattle.octets.specs.Buffer.{splice};
+ghost use Rattle.board.specs.Files.{distinct};
+ghost use Rattle.records.specs.Records.{isRecords, labelsIn, needed, neededBy, sizeIn, stored, laid};
+ghost use Rattle.records.specs.Filing.{startsRecord, refusal, emptyFile, Spot, Listed};
+
+// Whether a record of the list stands at a place; "SIZE 0000 is allowed only in a last TEXT record".
+fn starts_record(d: &[u8], at: usize) -> bool
+    requires { ⌜ at ≤ length (now d) ⌝ }
+    ensures { λ r. ⌜ r ≡ startsRecord (drop at (now (d .entry))) ⌝ }
+{
+    let rest = d.len() - at;
+    if rest < RECORD {
+        return false;
+    }
+    is_record(d, at, rest == RECORD)
+}
+
+// Whether the data are 0 to 64 records.
+fn is_records(d: &[u8]) -> bool
+    ensures { λ r. ⌜ r ≡ isRecords 64 (now (d .entry)) ⌝ }
+{
+    let mut at: usize = 0;
+    let mut left = FILES;
+    while 0 < left {
+        if at == d.len() {
+            return true;
+        }
+        if !starts_record(d, at) {
+            return false;
+        }
+        at += RECORD;
+        left -= 1;
+    }
+    at == d.len()
+}
+
+// Whether a label is among those of n records from a place on.
+fn label_among(d: &[u8], from: usize, n: usize, label: u8) -> bool
+    requires { ⌜ from + 11 * n ≤ length (now d) ⌝ }
+    ensures { λ r. ⌜ r ≡ among label (labelsIn n (drop from (now (d .entry)))) ⌝ }
+{
+    let mut at = from;
+    let mut left = n;
+    while 0 < left {
+        if d[at] == label {
+            return true;
+        }
+        at += RECORD;
+        left -= 1;
+    }
+    false
+}
+
+// "label twice": each is looked for in the records behind its own.
+fn labels_distinct(d: &[u8], n: usize) -> bool
+    requires { ⌜ 11 * n ≤ length (now d) ⌝ }
+    ensures { λ r. ⌜ r ≡ distinct (labelsIn n (now (d .entry))) ⌝ }
+{
+    let mut at: usize = 0;
+    let mut left = n;
+    while 0 < left {
+        let label = d[at];
+        at += RECORD;
+        left -= 1;
+        if label_among(d, at, left, label) {
+            return false;
+        }
+    }
+    true
+}
+
+// What a record takes: "Sizes plus 11 for each"; SIZE 0000 "at least 1".
+fn needed_by(d: &[u8], at: usize) -> usize
+    requires { ⌜ at ≤ length (now d) ⌝ }
+    ensures { λ r. ⌜ r ≡ neededBy (drop at (now (d .entry))) ⌝ }
+{
+    let size = size_at(d, at);
+    if size == 0 { RECORD + 1 } else { RECORD + size }
+}
+
+// What n records take.
+fn needed(d: &[u8], n: usize) -> usize
+    requires { ⌜ (11 * n ≤ length (now d)) × (n ≤ 64) ⌝ }
+    ensures { λ r. ⌜ r ≡ needed n (now (d .entry)) ⌝ }
+{
+    let mut sum: usize = 0;
+    let mut at: usize = 0;
+    let mut left = n;
+    while 0 < left {
+        sum += needed_by(d, at);
+        at += RECORD;
+        left -= 1;
+    }
+    sum
+}
+
+// The size that a record gets: 0000 "takes what remains after its own 11 bytes".
+fn size_in(room: usize, d: &[u8], at: usize) -> usize
+    requires { ⌜ (at ≤ length (now d)) × (11 ≤ room) ⌝ }
+    ensures { λ r. ⌜ r ≡ sizeIn room (drop at (now (d .entry))) ⌝ }
+{
+    let size = size_at(d, at);
+    if size == 0 { room - RECORD } else { size }
+}
+
+// "the record is stored with that size"
+fn store(m: &mut [u8], place: usize, size: u16, head: &[u8])
+    requires { ⌜ (place + 11 ≤ length (now m)) × (length (now head) ≡ 11) ⌝ }
+    ensures { λ r. ⌜ now (m .exit) ≡ splice (now (m .entry)) place (stored size (now (head .entry))) ⌝ }
+{
+    copy_at(m, place, head);
+    put_four(m, place + SIZE, size);
+}
+
+// A file with its content empty.
+fn lay_file(m: &mut [u8], place: usize, size: usize, head: &[u8])
+    requires { ⌜ Spot (now m) place size (now head) ⌝ }
+    ensures { λ r. ⌜ now (m .exit) ≡ splice (now (m .entry)) place (emptyFile size (now (head .entry))) ⌝ }
+{
+    store(m, place, size as u16, head);
+    zero_at(m, place + RECORD, size);
+}
+
+// n files with empty contents; "Unused memory stays unused."
+pub fn lay(m: &mut [u8], d: &[u8], n: usize)
+    requires { ⌜ Listed (now m) (now d) n ⌝ }
+    ensures { λ r. ⌜ now (m .exit) ≡ laid n (length (now (m .entry))) (now (d .entry)) ⌝ }
+{
+    let mut place: usize = 0;
+    let mut at: usize = 0;
+    let mut left = n;
+    while 0 < left {
+        let size = size_in(m.len() - place, d, at);
+        let next = at + RECORD;
+        lay_file(m, place, size, &d[at..next]);
+        place = place + RECORD + size;
+        at = next;
+        left -= 1;
+    }
+    let rest = m.len() - place;
+    zero_at(m, place, rest);
+}
+
+// Why a list is refused in so much room: 25, 26, 27, or 0 where it is not.
+pub fn refusal(d: &[u8], room: usize) -> u8
+    ensures { λ r. ⌜ r ≡ refusal (now (d .entry)) room ⌝ }
+{
+    if !is_records(d) {
+        return BAD_RECORD;
+    }
+    let n = d.len() / RECORD;
+    if !labels_distinct(d, n) {
+        return LABEL_TWICE;
+    }
+    if room < needed(d, n) {
+        return NO_ROOM;
+    }
+    0
+}

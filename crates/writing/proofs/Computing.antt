@@ -1,0 +1,18 @@
+-- The definitions of the frame layer, under one name.
+use Rattle.forms.specs.Forms.{plainRest, plainBody, summedBody, nuls, bodyIn, formOf, isItself, escape, render}
+use Rattle.writing.specs.Output.{isOver, put}
+use Rattle.writing.specs.Writing.{write}
+use Rattle.writing.specs.Reforming.{allRight, checked, putRead, reform}
+use Rattle.writing.specs.Joining.{putJoined, join}
+use Rattle.reading.proofs.Computing.{reads}
+
+-- who unfolds it lets every definition of the frame layer compute
+unfoldable pub writes : Unit {0}
+unfolding
+    reads
+    plainRest plainBody summedBody nuls bodyIn formOf isItself escape render
+    isOver put
+    write
+    allRight checked putRead reform
+    putJoined join
+writes = tt

@@ -1,0 +1,68 @@
+use Rattle.writing.proofs.JoinLaws.{joining}
+use Rattle.writing.proofs.joining.join_right.Statement.{statement}
+use Rattle.writing.proofs.joining.join_right.Tie as tie
+
+sub-is-common : tie.Need-sub-is-common
+sub-is-common c = search joining
+
+part-is-common-start : tie.Need-part-is-common-start
+part-is-common-start c = search joining
+
+part-is-common-end : tie.Need-part-is-common-end
+part-is-common-end c = search joining
+
+sub-is-common-2 : tie.Need-sub-is-common-2
+sub-is-common-2 c = search joining
+
+part-is-common-start-2 : tie.Need-part-is-common-start-2
+part-is-common-start-2 c = search joining
+
+part-is-common-end-2 : tie.Need-part-is-common-end-2
+part-is-common-end-2 c = search joining
+
+is-common-requires : tie.Need-is-common-requires
+is-common-requires c κs = search joining
+
+unwritten-requires : tie.Need-unwritten-requires
+unwritten-requires c κs = search joining
+
+returns : tie.Need-returns
+returns c = search joining
+
+has-read-requires : tie.Need-has-read-requires
+has-read-requires c κs = search joining
+
+unwritten-requires-2 : tie.Need-unwritten-requires-2
+unwritten-requires-2 c κs = search joining
+
+returns-2 : tie.Need-returns-2
+returns-2 c = search joining
+
+join-calm-requires : tie.Need-join-calm-requires
+join-calm-requires c κs = search joining
+
+same-length : tie.Need-same-length
+same-length c = search joining
+
+returns-3 : tie.Need-returns-3
+returns-3 c = search joining
+
+pub join-right-spec : {M : Type 1} → statement M
+join-right-spec =
+    tie.close
+    (tie.spec
+    sub-is-common
+    part-is-common-start
+    part-is-common-end
+    sub-is-common-2
+    part-is-common-start-2
+    part-is-common-end-2
+    is-common-requires
+    unwritten-requires
+    returns
+    has-read-requires
+    unwritten-requires-2
+    returns-2
+    join-calm-requires
+    same-length
+    returns-3)

@@ -1,0 +1,22 @@
+-- "Joining puts the second frame's blocks after the first's under the common header."
+use Prim.Native.Nat.{ℕ}
+use mathlib.Core.Bool.{not}
+use mathlib.Core.List.{List, _++_}
+use Rattle.octets.specs.Choice.{if_then_else_, same}
+use Rattle.body.specs.Body.{hasRead}
+use Rattle.reading.specs.Reading.{Reading, refused, frame, read}
+use Rattle.writing.specs.Output.{Output, isForm, unwritten, put}
+use Rattle.writing.specs.Reforming.{checked}
+
+-- what was read of the one and of the other, in a form: 12 "header texts differ", 13 "first frame has a read"
+unfoldable pub putJoined : ℕ → Reading → Reading → List ℕ → Output
+putJoined form (refused n) second o = unwritten n o
+putJoined form (frame h bs) (refused n) o = unwritten n o
+putJoined form (frame h bs) (frame g cs) o =
+    if not (same h g) then unwritten 12 o
+    else if hasRead bs then unwritten 13 o
+    else put form h (bs ++ cs) o
+
+-- "Joining: 15, the first input's 3 to 8 and 17, the second's, 12, 13, 18, 14."
+unfoldable pub join : ℕ → List ℕ → List ℕ → List ℕ → Output
+join form first second o = if not (isForm form) then unwritten 15 o else putJoined form (checked (read first)) (checked (read second)) o

@@ -1,0 +1,27 @@
+-- Putting a frame into another form.
+use Prim.Native.Nat.{ℕ}
+use mathlib.Core.Bool.{Bool, true, not, _&&_}
+use mathlib.Core.List.{List, [], _∷_}
+use Rattle.octets.specs.Choice.{if_then_else_}
+use Rattle.body.specs.Body.{Block}
+use Rattle.reading.specs.Reading.{Reading, refused, frame, read}
+use Rattle.writing.specs.Output.{Output, isForm, unwritten, put}
+
+-- no block's sum is wrong
+unfoldable pub allRight : List Block → Bool
+allRight [] = true
+allRight (b ∷ bs) = b .right && allRight bs
+
+-- 17 "input has a wrong checksum"
+unfoldable pub checked : Reading → Reading
+checked (refused n) = refused n
+checked (frame h bs) = if allRight bs then frame h bs else refused 17
+
+-- what was read, in a form
+unfoldable pub putRead : ℕ → Reading → List ℕ → Output
+putRead form (refused n) o = unwritten n o
+putRead form (frame h bs) o = put form h bs o
+
+-- "Re-forming: 15, 3 to 8 in the run's order, 17, 18, 14."
+unfoldable pub reform : ℕ → List ℕ → List ℕ → Output
+reform form s o = if not (isForm form) then unwritten 15 o else putRead form (checked (read s)) o
