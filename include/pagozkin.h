@@ -6,7 +6,8 @@
  * - a buffer that is written (a pointer without const) shares no byte with another buffer of the call;
  * - nothing else writes the buffers while the call runs, and the stack has room for it (PAGOZKIN_STACK_..).
  * Nothing more: frames, boards, numbers and lengths may be anything, and each call does its own checking.
- * No call keeps anything for the next one or takes memory of its own. The library calls memset and nothing else. */
+ * No call keeps anything for the next one or takes memory besides the stack, so calls on different buffers may run at one time.
+ * The library calls memset and nothing else. */
 #ifndef PAGOZKIN_H
 #define PAGOZKIN_H
 

@@ -1,6 +1,8 @@
 //! What the tests share: calls that also look at everything a call may not
 //! touch.
 
+use std::collections::BTreeSet;
+
 pub use second::stored::boards::Kit;
 pub use second::stored::build::{after, escaped, filled, pairs, plain, summed, without_nuls};
 
@@ -191,4 +193,27 @@ pub fn reply_of(code_label_data: &[u8], sum: &[u8]) -> Vec<u8> {
     bytes.extend(sum);
     bytes.push(4);
     bytes
+}
+
+/// The numbers that each call can answer; those of a run's first refused block
+/// stand under "r".
+const NUMBERS: [(u8, &[u8]); 6] = [
+    (b'N', &[0, 10, 11]),
+    (b'R', &[0, 1, 2, 3, 4, 5, 6, 7, 8, 9]),
+    (b'r', &[20, 21, 22, 23, 24, 25, 26, 27]),
+    (b'W', &[0, 6, 14, 15, 16, 18]),
+    (b'F', &[0, 3, 4, 5, 6, 7, 8, 14, 15, 17, 18]),
+    (b'J', &[0, 3, 4, 5, 6, 7, 8, 12, 13, 14, 15, 17, 18]),
+];
+
+/// Checks that of each call all its numbers were seen, and no others.
+pub fn assert_every_number(seen: &BTreeSet<(u8, u8)>) {
+    for (call, numbers) in NUMBERS {
+        let found: Vec<u8> = seen
+            .iter()
+            .filter(|(of, _)| *of == call)
+            .map(|(_, number)| *number)
+            .collect();
+        assert_eq!(found, numbers, "call {}", char::from(call));
+    }
 }

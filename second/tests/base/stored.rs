@@ -3,6 +3,7 @@
 
 use std::collections::BTreeSet;
 
+use crate::common::assert_every_number;
 use second::stored::{all, write_stored};
 use second::stream::CALLS;
 
@@ -32,22 +33,7 @@ fn every_refusal_is_there() {
             seen.insert((b'r', stored.first));
         }
     }
-    let expected: [(u8, &[u8]); 6] = [
-        (b'N', &[0, 10, 11]),
-        (b'R', &[0, 1, 2, 3, 4, 5, 6, 7, 8, 9]),
-        (b'r', &[20, 21, 22, 23, 24, 25, 26, 27]),
-        (b'W', &[0, 6, 14, 15, 16, 18]),
-        (b'F', &[0, 3, 4, 5, 6, 7, 8, 14, 15, 17, 18]),
-        (b'J', &[0, 3, 4, 5, 6, 7, 8, 12, 13, 14, 15, 17, 18]),
-    ];
-    for (call, numbers) in expected {
-        let found: Vec<u8> = seen
-            .iter()
-            .filter(|(of, _)| *of == call)
-            .map(|(_, number)| *number)
-            .collect();
-        assert_eq!(found, numbers, "call {}", char::from(call));
-    }
+    assert_every_number(&seen);
 }
 
 #[test]
