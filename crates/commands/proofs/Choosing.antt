@@ -12,12 +12,14 @@ use Rattle.buffers.proofs.Splices.{overlay-none}
 use Rattle.body.specs.Body.{block}
 use Rattle.board.specs.Files.{TEXT, STRING}
 use Rattle.board.specs.declared.Settings.{Settings}
-use Rattle.commands.specs.Commands.{Board, board, Effect, writeFile, readFile}
-use Rattle.commands.specs.Special.{writeSpecial, readSpecial}
+use Rattle.effects.specs.Effects.{Board, board, Effect}
+use Rattle.commands.specs.Commands.{writeFile, readFile}
+use Rattle.special.specs.Special.{writeSpecial, readSpecial}
 use Rattle.commands.specs.Blocks.{command, runBlock}
-use Rattle.commands.specs.Doing.{doneAs, Acts, Tells, Does}
-use Rattle.commands.specs.declared.Done.{Done}
-use Rattle.commands.proofs.Outcomes.{acts-refused}
+use Rattle.effects.specs.Leaving.{doneAs, Acts, Tells}
+use Rattle.commands.specs.Doing.{Does}
+use Rattle.effects.specs.declared.Done.{Done}
+use Rattle.effects.proofs.Outcomes.{acts-refused}
 
 -- ---- a block, whatever its command
 

@@ -21,12 +21,13 @@ use Rattle.board.proofs.Inside.{sound-held, found-inside}
 use Rattle.board.specs.declared.Settings.{Settings}
 use Rattle.board.specs.declared.Found.{Found}
 use Rattle.board.specs.declared.Found.the-variants.{At, Nothing}
-use Rattle.commands.specs.Reply.{replyOf}
-use Rattle.commands.specs.Commands.{board, findOn, getContent, readFile}
-use Rattle.commands.specs.Doing.{doneAs, Told, Replied, Tells}
-use Rattle.commands.specs.declared.Done.{Done}
-use Rattle.commands.proofs.ReplyLengths.{reply-length, front-length}
-use Rattle.commands.proofs.Outcomes.{tells-refused, tells-replied}
+use Rattle.effects.specs.Reply.{replyOf}
+use Rattle.effects.specs.Effects.{board}
+use Rattle.commands.specs.Commands.{findOn, getContent, readFile}
+use Rattle.effects.specs.Leaving.{doneAs, Told, Replied, Tells}
+use Rattle.effects.specs.declared.Done.{Done}
+use Rattle.effects.proofs.ReplyLengths.{reply-length, front-length}
+use Rattle.effects.proofs.Outcomes.{tells-refused, tells-replied}
 
 -- ---- a content without its zeros; n is where its bytes 05H to FFH end
 

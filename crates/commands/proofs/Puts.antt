@@ -17,10 +17,12 @@ use Rattle.board.proofs.Inside.{sound-held, found-inside}
 use Rattle.board.specs.declared.Settings.{Settings}
 use Rattle.board.specs.declared.Found.{Found}
 use Rattle.board.specs.declared.Found.the-variants.{At, Nothing}
-use Rattle.commands.specs.Commands.{board, findOn, holding, putMessage, writeFile}
-use Rattle.commands.specs.Doing.{doneAs, Room, Acts}
-use Rattle.commands.specs.declared.Done.{Done}
-use Rattle.commands.proofs.Outcomes.{acts-refused, acts-done}
+use Rattle.effects.specs.Effects.{board}
+use Rattle.commands.specs.Commands.{findOn, holding, putMessage, writeFile}
+use Rattle.effects.specs.Leaving.{doneAs, Acts}
+use Rattle.commands.specs.Doing.{Room}
+use Rattle.effects.specs.declared.Done.{Done}
+use Rattle.effects.proofs.Outcomes.{acts-refused, acts-done}
 
 -- the message, then zeros
 pub hold-put : (m a b msg : List ℕ) (start size : ℕ) → Room m start size msg → a ≡ splice m start msg → b ≡ splice a (start + length msg) (zeros (size - length msg)) →

@@ -6,8 +6,9 @@ use Rattle.octets.specs.Choice.{if_then_else_, _is_}
 use Rattle.octets.specs.Bytes.{A, B, E, F, G, H}
 use Rattle.body.specs.Body.{Block}
 use Rattle.board.specs.Files.{TEXT, STRING}
-use Rattle.commands.specs.Commands.{Board, Effect, refuse, writeFile, readFile}
-use Rattle.commands.specs.Special.{writeSpecial, readSpecial}
+use Rattle.effects.specs.Effects.{Board, Effect, refuse}
+use Rattle.commands.specs.Commands.{writeFile, readFile}
+use Rattle.special.specs.Special.{writeSpecial, readSpecial}
 
 -- "What each command does", by its byte; the reply to B is written with A, that to H with G; 21 "unknown command byte"
 unfoldable pub command : Board → ℕ → List ℕ → Effect

@@ -1,4 +1,4 @@
--- What a command leaves; and the commands A, G, B and H.
+-- The commands A, G, B and H.
 use Prim.Native.Nat.{ℕ, _-_}
 use mathlib.Core.List.{List, [], _∷_, _++_}
 use lib.ListN.{length, take, drop}
@@ -6,37 +6,10 @@ use Rattle.octets.specs.Choice.{if_then_else_, _isn't_, _<?_, _!_, front}
 use Rattle.octets.specs.Buffer.{zeros, splice}
 use Rattle.octets.specs.Bytes.{isPlain}
 use Rattle.board.specs.Files.{filesOf, find}
-use Rattle.commands.specs.Reply.{replyOf}
-use Rattle.board.specs.declared.Settings.{Settings}
+use Rattle.effects.specs.Reply.{replyOf}
+use Rattle.effects.specs.Effects.{Board, board, Effect, done, replied, refuse}
 use Rattle.board.specs.declared.Found.{Found}
 use Rattle.board.specs.declared.Found.the-variants.{At, Nothing}
-
--- a board is settings and memory
-pub record Board : Type 0 where
-  pub set : Settings
-  pub memory : List ℕ
-
--- such a board
-abbrev pub board : Settings → List ℕ → Board
-board s m = record { set = s; memory = m }
-
--- the number of a command, 0 or 20 to 27, the board after it, and its reply, empty where there is none
-pub record Effect : Type 0 where
-  pub number : ℕ
-  pub after : Board
-  pub reply : List ℕ
-
--- done, without a reply
-abbrev pub done : Board → Effect
-done b = record { number = 0; after = b; reply = [] }
-
--- done, with a reply
-abbrev pub replied : Board → List ℕ → Effect
-replied b r = record { number = 0; after = b; reply = r }
-
--- refused, the board as it was
-abbrev pub refuse : ℕ → Board → Effect
-refuse n b = record { number = n; after = b; reply = [] }
 
 -- the content of a file of the board
 abbrev pub findOn : Board → ℕ → ℕ → Found

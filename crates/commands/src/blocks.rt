@@ -1,25 +1,26 @@
 // One block on a sound board.
-use crate::Done;
 use crate::commands::read_file;
-use crate::commands::refused;
 use crate::commands::write_file;
-use crate::numbers::UNKNOWN;
-use crate::numbers::WRONG_CHECKSUM;
-use crate::special::read_special;
-use crate::special::write_special;
 use board::Settings;
 use board::files::STRING;
 use board::files::TEXT;
+use effects::Done;
+use effects::effects::quiet;
+use effects::numbers::UNKNOWN;
+use effects::numbers::WRONG_CHECKSUM;
 use octets::bytes::A;
 use octets::bytes::B;
 use octets::bytes::E;
 use octets::bytes::F;
 use octets::bytes::G;
 use octets::bytes::H;
+use special::special::read_special;
+use special::special::write_special;
 ghost use Rattle.body.specs.Body.{block};
-ghost use Rattle.commands.specs.Commands.{board};
+ghost use Rattle.effects.specs.Effects.{board};
 ghost use Rattle.commands.specs.Blocks.{command, runBlock};
-ghost use Rattle.commands.specs.Doing.{Does, Ready};
+ghost use Rattle.commands.specs.Doing.{Does};
+ghost use Rattle.effects.specs.Leaving.{Ready};
 
 // "What each command does", by its byte; the reply to B is written with A, that to H with G.
 fn command(s: Settings, m: &mut [u8], code: u8, text: &[u8], out: &mut [u8]) -> Done
@@ -33,7 +34,7 @@ fn command(s: Settings, m: &mut [u8], code: u8, text: &[u8], out: &mut [u8]) -> 
         H => read_file(s, m, STRING, G, text, out),
         E => write_special(s, m, text),
         F => read_special(s, m, text, out),
-        _ => refused(s, UNKNOWN),
+        _ => quiet(s, UNKNOWN),
     }
 }
 
@@ -50,7 +51,7 @@ pub fn run_block(
     ensures { λ r. ⌜ Does (now (out .entry)) (runBlock (board s (now (m .entry))) (block code (now (text .entry)) right)) r (now (m .exit)) (now (out .exit)) ⌝ }
 {
     if !right {
-        return refused(s, WRONG_CHECKSUM);
+        return quiet(s, WRONG_CHECKSUM);
     }
     command(s, m, code, text, out)
 }

@@ -1,15 +1,16 @@
 // The commands A, G, B and H.
-use crate::Done;
-use crate::numbers::MALFORMED;
-use crate::numbers::NO_FILE;
-use crate::numbers::TOO_LONG;
-use crate::reply::DATA;
-use crate::reply::reply;
 use board::Found;
 use board::Settings;
 use board::files::find;
 use buffers::copying::copy_at;
 use buffers::copying::zero_at;
+use effects::Done;
+use effects::effects::quiet;
+use effects::numbers::MALFORMED;
+use effects::numbers::NO_FILE;
+use effects::numbers::TOO_LONG;
+use effects::reply::DATA;
+use effects::reply::reply;
 use octets::slices::plain_run;
 ghost use mathlib.Core.Path.{_≡_};
 ghost use mathlib.Core.Bool.{true};
@@ -18,19 +19,10 @@ ghost use lib.ListN.{length};
 ghost use Rattle.octets.specs.Choice.{front};
 ghost use Rattle.octets.specs.Bytes.{isPlain};
 ghost use Rattle.board.specs.Soundness.{sound};
-ghost use Rattle.commands.specs.Commands.{board, findOn, holding, putMessage, writeFile, getContent, readFile};
-ghost use Rattle.commands.specs.Doing.{Room, Told, doneAs, Acts, Tells, Ready};
-
-// A block that is refused: nothing changes and there is no reply.
-pub fn refused(s: Settings, number: u8) -> Done
-    ensures { λ r. ⌜ r ≡ doneAs number s 0 ⌝ }
-{
-    Done {
-        number,
-        settings: s,
-        length: 0,
-    }
-}
+ghost use Rattle.effects.specs.Effects.{board};
+ghost use Rattle.commands.specs.Commands.{findOn, holding, putMessage, writeFile, getContent, readFile};
+ghost use Rattle.commands.specs.Doing.{Room};
+ghost use Rattle.effects.specs.Leaving.{Told, Acts, Tells, Ready};
 
 // "The TEXT or STRING file then holds the message, zeros after it."
 fn hold(m: &mut [u8], start: usize, size: usize, message: &[u8])
@@ -48,13 +40,13 @@ fn put_message(s: Settings, m: &mut [u8], label: u8, kind: u8, message: &[u8]) -
     ensures { λ r. ⌜ Acts (putMessage (board s (now (m .entry))) (findOn (board s (now (m .entry))) label kind) (now (message .entry))) r (now (m .exit)) ⌝ }
 {
     match find(m, s.files as usize, label, kind) {
-        Found::Nothing => refused(s, NO_FILE),
+        Found::Nothing => quiet(s, NO_FILE),
         Found::At(start, size) => {
             if message.len() <= size {
                 hold(m, start, size, message);
-                return refused(s, 0);
+                return quiet(s, 0);
             }
-            refused(s, TOO_LONG)
+            quiet(s, TOO_LONG)
         }
     }
 }
@@ -65,7 +57,7 @@ pub fn write_file(s: Settings, m: &mut [u8], kind: u8, text: &[u8]) -> Done
     ensures { λ r. ⌜ Acts (writeFile kind (board s (now (m .entry))) (now (text .entry))) r (now (m .exit)) ⌝ }
 {
     if text.len() == 0 {
-        return refused(s, MALFORMED);
+        return quiet(s, MALFORMED);
     }
     put_message(s, m, text[0], kind, &text[1..])
 }
@@ -86,7 +78,7 @@ fn get_content(s: Settings, m: &[u8], label: u8, kind: u8, code: u8, out: &mut [
     ensures { λ r. ⌜ Tells (board s (now (m .entry))) (now (out .entry)) (getContent code (board s (now (m .entry))) label (findOn (board s (now (m .entry))) label kind)) r (now (out .exit)) ⌝ }
 {
     match find(m, s.files as usize, label, kind) {
-        Found::Nothing => refused(s, NO_FILE),
+        Found::Nothing => quiet(s, NO_FILE),
         Found::At(start, size) => {
             let end = start + size;
             let n = tell_content(&m[start..end], out);
@@ -106,7 +98,7 @@ pub fn read_file(s: Settings, m: &[u8], kind: u8, code: u8, text: &[u8], out: &m
     ensures { λ r. ⌜ Tells (board s (now (m .entry))) (now (out .entry)) (readFile kind code (board s (now (m .entry))) (now (text .entry))) r (now (out .exit)) ⌝ }
 {
     if text.len() != 1 {
-        return refused(s, MALFORMED);
+        return quiet(s, MALFORMED);
     }
     get_content(s, m, text[0], kind, code, out)
 }

@@ -17,9 +17,9 @@ use Rattle.octets.proofs.Lists.{all-at}
 use Rattle.board.specs.Settings.{FORMAT-S, FORMAT-M, OFF, ON, inRange}
 use Rattle.board.specs.declared.Settings.{Settings}
 use Rattle.board.proofs.Ranges.{time-ranged, date-ranged, format-ranged, speaker-ranged, address-ranged}
-use Rattle.commands.specs.Special.{setTime, setSpeaker, setFormat, setDate, setAddress}
-use Rattle.commands.specs.declared.Change.{Change}
-use Rattle.commands.specs.declared.Change.the-variants.{To, Malformed}
+use Rattle.special.specs.Special.{setTime, setSpeaker, setFormat, setDate, setAddress}
+use Rattle.special.specs.declared.Change.{Change}
+use Rattle.special.specs.declared.Change.the-variants.{To, Malformed}
 
 -- what a change from s to t keeps; the test says whether it may set the address
 pub record Kept (moves : Bool) (s t : Settings) : Type 0 where

@@ -20,20 +20,22 @@ use Rattle.board.specs.Files.{TEXT, STRING, FILES, File, filesOf, distinct}
 use Rattle.board.specs.Soundness.{holdsFiles, soundMemory, sound}
 use Rattle.board.proofs.Ranges.{files-ranged}
 use Rattle.board.proofs.SoundParts.{parts, sound-parts, sound-whole}
-use Rattle.commands.specs.Commands.{Board, board, Effect, done, replied, refuse, findOn, holding}
+use Rattle.effects.specs.Effects.{Board, board, Effect, done, replied, refuse}
+use Rattle.commands.specs.Commands.{findOn, holding}
 use Rattle.commands.specs.Commands.{putMessage, writeFile, getContent, readFile}
 use Rattle.records.specs.Records.{isRecords, recordsIn, labelsIn, needed, laid}
-use Rattle.commands.specs.Configuration.{configure}
-use Rattle.commands.specs.Special.{TIME, SPEAKER, FORMAT, DATE, ADDRESS, CONFIGURATION, setsAddress}
-use Rattle.commands.specs.Special.{setTime, setSpeaker, setFormat, setDate, setAddress, change}
-use Rattle.commands.specs.Special.{writeSpecial, isTold, readSpecial}
+use Rattle.special.specs.Configuration.{configure}
+use Rattle.special.specs.Special.{TIME, SPEAKER, FORMAT, DATE, ADDRESS, CONFIGURATION, setsAddress}
+use Rattle.special.specs.Special.{setTime, setSpeaker, setFormat, setDate, setAddress, change}
+use Rattle.special.specs.Special.{writeSpecial, isTold, readSpecial}
 use Rattle.commands.specs.Blocks.{command, runBlock}
-use Rattle.commands.specs.declared.Change.{Change}
-use Rattle.commands.specs.declared.Change.the-variants.{To, Malformed}
+use Rattle.special.specs.declared.Change.{Change}
+use Rattle.special.specs.declared.Change.the-variants.{To, Malformed}
 use Rattle.keeping.proofs.Messages.{fileIn, content, put-others, holding-files, holding-length, holding-sound}
 use Rattle.records.proofs.RecordLaws.{laid-length, laid-sound}
 use Rattle.keeping.proofs.Changes.{KeptBy, time-keeps, date-keeps, format-keeps, speaker-keeps, address-keeps}
-use Rattle.commands.proofs.ReplyLengths.{told-fits, content-fits}
+use Rattle.special.proofs.TellLengths.{told-fits}
+use Rattle.effects.proofs.ReplyLengths.{content-fits}
 
 -- a sound board
 abbrev pub Sound : Board → Type 0

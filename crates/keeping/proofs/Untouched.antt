@@ -9,7 +9,8 @@ use Rattle.octets.specs.Choice.{_!_, all}
 use Rattle.octets.specs.Bytes.{isPlain}
 use Rattle.board.specs.declared.Found.the-variants.{At}
 use Rattle.board.specs.Files.{filesOf}
-use Rattle.commands.specs.Commands.{Board, board, Effect, done, findOn, holding, putMessage, writeFile}
+use Rattle.effects.specs.Effects.{Board, board, Effect, done}
+use Rattle.commands.specs.Commands.{findOn, holding, putMessage, writeFile}
 use Rattle.commands.specs.Blocks.{command}
 use Rattle.keeping.proofs.Messages.{putIn, content, holding-files}
 use Rattle.keeping.proofs.Keeping.{Holds, fileOf, configures, writes, command-effects}

@@ -2,11 +2,11 @@
 use Rattle.board.specs.Settings.{inRange}
 use Rattle.board.specs.Files.{sizeOf, filesOf, layout, heads, used, unused, labels, distinct, isAt, find}
 use Rattle.board.specs.Soundness.{isLabel, isKind, isProtection, isSize, isStartCode, isStopCode, isCodes, isRecord, isContent, isFileAt, holdsFiles, soundMemory, sound}
-use Rattle.commands.specs.Reply.{replyOf}
+use Rattle.effects.specs.Reply.{replyOf}
 use Rattle.commands.specs.Commands.{holding, putMessage, writeFile, getContent, readFile}
 use Rattle.records.specs.Records.{isRecords, labelsIn, neededBy, needed, sizeIn, stored, laid}
-use Rattle.commands.specs.Configuration.{configure}
-use Rattle.commands.specs.Special.{setTime, setSpeaker, setFormat, setDate, setAddress, change, writeSpecial, tellTime, tellDate, tellSpeaker, tellPool, isTold, tell, readSpecial}
+use Rattle.special.specs.Configuration.{configure}
+use Rattle.special.specs.Special.{setTime, setSpeaker, setFormat, setDate, setAddress, change, writeSpecial, tellTime, tellDate, tellSpeaker, tellPool, isTold, tell, readSpecial}
 use Rattle.commands.specs.Blocks.{command, runBlock}
 use Rattle.sign.specs.Run.{count, measure, onto, runBlocks, runFrame, run}
 use Rattle.sign.specs.Fresh.{fresh}

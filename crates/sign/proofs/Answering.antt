@@ -16,7 +16,7 @@ use Rattle.reading.specs.declared.Read.the-variants.{Refused, Standard, Printab
 use Rattle.reading.proofs.Viewing.{Stands, stands-good, stands-frame, reads-refused, reads-standard, reads-printable, reads-within, reads-counts}
 use Rattle.board.specs.Soundness.{sound}
 use Rattle.board.specs.declared.Settings.{Settings}
-use Rattle.commands.specs.Commands.{board}
+use Rattle.effects.specs.Effects.{board}
 use Rattle.sign.specs.Run.{nothing, state, runBlocks, outcome, ran, runFrame, run}
 use Rattle.sign.specs.Running.{answerAs, stateAs, Parted}
 use Rattle.sign.specs.declared.Tally.{Tally}

@@ -18,10 +18,11 @@ use Rattle.body.proofs.BlockLoops.{more-ordered, more-inside, last-ordered, las
 use Rattle.body.proofs.BlockLoops.{blocks-stray, blocks-last, blocks-more, blocks-none}
 use Rattle.board.specs.Soundness.{sound}
 use Rattle.board.specs.declared.Settings.{Settings}
-use Rattle.commands.specs.Commands.{board}
+use Rattle.effects.specs.Effects.{board}
 use Rattle.commands.specs.Blocks.{runBlock}
-use Rattle.commands.specs.Doing.{Does, Ready}
-use Rattle.commands.specs.declared.Done.{Done}
+use Rattle.commands.specs.Doing.{Does}
+use Rattle.effects.specs.Leaving.{Ready}
+use Rattle.effects.specs.declared.Done.{Done}
 use Rattle.keeping.proofs.Keeping.{Sound, block-effects}
 use Rattle.sign.specs.Run.{nothing, count, measure, State, state, onto, runBlocks}
 use Rattle.sign.specs.Running.{stateAs, Runnable, Running}

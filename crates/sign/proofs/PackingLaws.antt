@@ -14,7 +14,7 @@ use Rattle.reading.specs.Reading.{frame, read}
 use Rattle.reading.proofs.FrameLaws.{read-plain}
 use Rattle.board.specs.Soundness.{sound}
 use Rattle.board.specs.declared.Settings.{Settings}
-use Rattle.commands.specs.Commands.{board}
+use Rattle.effects.specs.Effects.{board}
 use Rattle.sign.specs.Run.{nothing, State, state, runBlocks, Outcome, untouched, ran, runFrame, run}
 use Rattle.sign.specs.Packing.{setsNoAddress, next, plus, together, Packed}
 use Rattle.sign.specs.declared.Tally.{Tally}

@@ -14,7 +14,7 @@ use Rattle.header.specs.Addressing.{addressed}
 use Rattle.reading.specs.Reading.{Reading, refused, frame, read}
 use Rattle.board.specs.Soundness.{sound}
 use Rattle.board.specs.declared.Settings.{Settings}
-use Rattle.commands.specs.Commands.{Board, board, Effect}
+use Rattle.effects.specs.Effects.{Board, board, Effect}
 use Rattle.commands.specs.Blocks.{runBlock}
 use Rattle.sign.specs.Run.{tally, nothing, count, measure, State, state, onto, runBlocks, Outcome, runFrame, run}
 use Rattle.sign.specs.Packing.{plus}

@@ -22,9 +22,9 @@ use Rattle.board.specs.Soundness.{holdsFiles, isMemory, sound}
 use Rattle.board.specs.declared.Settings.{Settings}
 use Rattle.board.proofs.Contents.{zeros-nul}
 use Rattle.board.proofs.SoundParts.{whole, sound-whole}
-use Rattle.commands.specs.Commands.{board}
+use Rattle.effects.specs.Effects.{board}
 use Rattle.commands.specs.Blocks.{runBlock}
-use Rattle.commands.specs.Special.{setsAddress}
+use Rattle.special.specs.Special.{setsAddress}
 use Rattle.keeping.proofs.Keeping.{Sound, block-effects}
 use Rattle.sign.specs.Run.{nothing, count, measure, State, state, onto, runBlocks, Outcome, untouched, runFrame, run}
 use Rattle.sign.specs.Fresh.{Making, fresh}

@@ -6,7 +6,7 @@ use mathlib.Core.List.{List, [], _∷_}
 use Rattle.octets.specs.Choice.{if_then_else_, _is_}
 use Rattle.body.specs.Body.{Block}
 use Rattle.board.specs.declared.Settings.{Settings}
-use Rattle.commands.specs.Special.{setsAddress}
+use Rattle.special.specs.Special.{setsAddress}
 use Rattle.sign.specs.Run.{tally, Outcome, answers, run}
 use Rattle.sign.specs.declared.Tally.{Tally}
 

@@ -9,7 +9,7 @@ use Rattle.body.specs.Body.{Block}
 use Rattle.header.specs.Addressing.{addressed}
 use Rattle.reading.specs.Reading.{Reading, refused, frame, read}
 use Rattle.board.specs.Soundness.{sound}
-use Rattle.commands.specs.Commands.{Board, board, Effect}
+use Rattle.effects.specs.Effects.{Board, board, Effect}
 use Rattle.commands.specs.Blocks.{runBlock}
 use Rattle.board.specs.declared.Settings.{Settings}
 use Rattle.sign.specs.declared.Tally.{Tally}

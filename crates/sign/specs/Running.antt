@@ -7,8 +7,8 @@ use lib.ListN.{length}
 use Rattle.octets.specs.Bytes.{BLOCKS}
 use Rattle.body.specs.Steps.{bodyAt}
 use Rattle.board.specs.declared.Settings.{Settings}
-use Rattle.commands.specs.Commands.{board}
-use Rattle.commands.specs.Doing.{Ready}
+use Rattle.effects.specs.Effects.{board}
+use Rattle.effects.specs.Leaving.{Ready}
 use Rattle.sign.specs.Run.{State, state}
 use Rattle.sign.specs.declared.Tally.{Tally}
 use Rattle.sign.specs.declared.Answer.{Answer}

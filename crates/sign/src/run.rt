@@ -19,7 +19,7 @@ ghost use Rattle.octets.specs.Bytes.{BLOCKS};
 ghost use Rattle.body.specs.Body.{block};
 ghost use Rattle.body.specs.Steps.{part, blocksAt};
 ghost use Rattle.reading.specs.Reading.{frame};
-ghost use Rattle.commands.specs.Commands.{board};
+ghost use Rattle.effects.specs.Effects.{board};
 ghost use Rattle.commands.specs.Blocks.{runBlock};
 ghost use Rattle.sign.specs.Run.{nothing, count, measure, state, onto, runBlocks, outcome, runFrame, run};
 ghost use Rattle.sign.specs.Running.{answerAs, Runnable, Running, Parted, stateAs};

@@ -20,8 +20,8 @@ write-special-requires c κs = search choosing
 read-special-requires : tie.Need-read-special-requires
 read-special-requires c κs = search choosing
 
-refused-requires : tie.Need-refused-requires
-refused-requires c κs = search choosing
+quiet-requires : tie.Need-quiet-requires
+quiet-requires c κs = search choosing
 
 same-length : tie.Need-same-length
 same-length c = search choosing
@@ -81,7 +81,7 @@ command-spec =
     read-file-requires-2
     write-special-requires
     read-special-requires
-    refused-requires
+    quiet-requires
     same-length
     returns
     same-length-2

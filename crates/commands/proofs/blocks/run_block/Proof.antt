@@ -2,8 +2,8 @@ use Rattle.commands.proofs.Choosing.{choosing}
 use Rattle.commands.proofs.blocks.run_block.Statement.{statement}
 use Rattle.commands.proofs.blocks.run_block.Tie as tie
 
-refused-requires : tie.Need-refused-requires
-refused-requires c κs = search choosing
+quiet-requires : tie.Need-quiet-requires
+quiet-requires c κs = search choosing
 
 returns : tie.Need-returns
 returns c = search choosing
@@ -23,4 +23,4 @@ returns-2 c = search choosing
 pub run-block-spec : {M : Type 1} → statement M
 run-block-spec =
     tie.close
-    (tie.spec refused-requires returns command-requires same-length same-length-2 returns-2)
+    (tie.spec quiet-requires returns command-requires same-length same-length-2 returns-2)

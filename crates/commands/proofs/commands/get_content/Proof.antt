@@ -11,8 +11,8 @@ find-requires c κs = search gets
 enum-told : tie.Need-enum-told
 enum-told c = search gets
 
-refused-requires : tie.Need-refused-requires
-refused-requires c κs = search gets
+quiet-requires : tie.Need-quiet-requires
+quiet-requires c κs = search gets
 
 enum-known-start : tie.Need-enum-known-start
 enum-known-start c = search gets
@@ -51,7 +51,7 @@ get-content-spec =
     cast-find
     find-requires
     enum-told
-    refused-requires
+    quiet-requires
     enum-known-start
     add-end
     sub-tell-content

@@ -11,8 +11,8 @@ find-requires c κs = search puts
 enum-told : tie.Need-enum-told
 enum-told c = search puts
 
-refused-requires : tie.Need-refused-requires
-refused-requires c κs = search puts
+quiet-requires : tie.Need-quiet-requires
+quiet-requires c κs = search puts
 
 enum-known-start : tie.Need-enum-known-start
 enum-known-start c = search puts
@@ -20,8 +20,8 @@ enum-known-start c = search puts
 hold-requires : tie.Need-hold-requires
 hold-requires c κs = search puts
 
-refused-requires-2 : tie.Need-refused-requires-2
-refused-requires-2 c κs = search puts
+quiet-requires-2 : tie.Need-quiet-requires-2
+quiet-requires-2 c κs = search puts
 
 same-length : tie.Need-same-length
 same-length c = search puts
@@ -29,8 +29,8 @@ same-length c = search puts
 returns : tie.Need-returns
 returns c = search puts
 
-refused-requires-3 : tie.Need-refused-requires-3
-refused-requires-3 c κs = search puts
+quiet-requires-3 : tie.Need-quiet-requires-3
+quiet-requires-3 c κs = search puts
 
 same-length-2 : tie.Need-same-length-2
 same-length-2 c = search puts
@@ -51,13 +51,13 @@ put-message-spec =
     cast-find
     find-requires
     enum-told
-    refused-requires
+    quiet-requires
     enum-known-start
     hold-requires
-    refused-requires-2
+    quiet-requires-2
     same-length
     returns
-    refused-requires-3
+    quiet-requires-3
     same-length-2
     returns-2
     same-length-3

@@ -2,8 +2,8 @@ use Rattle.commands.proofs.Gets.{gets}
 use Rattle.commands.proofs.commands.read_file.Statement.{statement}
 use Rattle.commands.proofs.commands.read_file.Tie as tie
 
-refused-requires : tie.Need-refused-requires
-refused-requires c κs = search gets
+quiet-requires : tie.Need-quiet-requires
+quiet-requires c κs = search gets
 
 returns : tie.Need-returns
 returns c = search gets
@@ -24,7 +24,7 @@ pub read-file-spec : {M : Type 1} → statement M
 read-file-spec =
     tie.close
     (tie.spec
-    refused-requires
+    quiet-requires
     returns
     shared-slice-read-get-content
     get-content-requires

@@ -1,0 +1,235 @@
+-- What the special functions that set make of data, test by test: another setting, or that the data are malformed.
+use Prim.Native.Nat.{ℕ, _-_}
+use mathlib.Core.Path.{_≡_, refl, sym, _∙_}
+use mathlib.Core.List.{List, [], _∷_}
+use mathlib.Core.Bool.{Bool, true, false, not, _&&_, _||_}
+use native.Mathlib.Omega.{arith}
+use lib.ListN.{length, take, drop}
+use lib.Seq.{take-all}
+use borrow.Author.Needs.{needs}
+use borrow.Author.Tests.{eq-eqb, ne-eqb, not-true, not-false}
+use Rattle.octets.specs.Choice.{_is_, _≤?_, between, _!_, all, same}
+use Rattle.octets.specs.Bytes.{ZERO, F}
+use Rattle.octets.specs.Decimal.{isDecimal, decimal2}
+use Rattle.octets.specs.Digits.{two}
+use Rattle.octets.specs.declared.hex.Two.{Two}
+use Rattle.octets.specs.declared.hex.Two.the-variants.{Value, Bad}
+use Rattle.octets.proofs.Tests.{by-test, and-none}
+use Rattle.octets.proofs.Told.{two-none, two-some}
+use Rattle.board.specs.Settings.{FORMAT-S, FORMAT-M, OFF, ON, withTime, withDate, withFormat, withSpeaker, withAddress}
+use Rattle.board.specs.declared.Settings.{Settings}
+use Rattle.effects.specs.Effects.{board}
+use Rattle.special.specs.Configuration.{configure}
+use Rattle.special.specs.Special.{TIME, SPEAKER, CONFIGURATION, FORMAT, ADDRESS, DATE}
+use Rattle.special.specs.Special.{setTime, setSpeaker, setFormat, setDate, setAddress, change, writeSpecial}
+use Rattle.effects.specs.Leaving.{doneAs, Acts}
+use Rattle.special.specs.Changing.{changed, setAs}
+use Rattle.special.specs.declared.Change.{Change}
+use Rattle.special.specs.declared.Change.the-variants.{To, Malformed}
+use Rattle.effects.specs.declared.Done.{Done}
+use Rattle.effects.proofs.Outcomes.{acts-refused, acts-done}
+
+-- data that are digits alone: b is the code's answer
+pub digits-alone : (d : List ℕ) (b : Bool) → b ≡ all isDecimal d → not b ≡ false → all isDecimal d ≡ true
+digits-alone d b e h = sym e ∙ not-false b h
+
+-- ---- the time
+
+module _ (s : Settings) (d : List ℕ) where
+  pub time-length : (length d ≡ 4 → ⊥) → Malformed ≡ setTime s d
+  unfolding setTime
+  time-length n = rw (ne-eqb (length d) 4 n)
+
+  module _ (l : length d ≡ 4) (b : Bool) (e : b ≡ all isDecimal d) where
+    pub time-letters : not b ≡ true → Malformed ≡ setTime s d
+    unfolding setTime
+    time-letters h = rw (eq-eqb (length d) 4 l, ← e, not-true b h)
+
+    module _ (h : not b ≡ false) (x y : ℕ) (p : x ≡ decimal2 d) (q : y ≡ decimal2 (drop 2 d)) (t : Bool) (f : t ≡ (x ≤? 23 && y ≤? 59)) where
+      pub time-late : not t ≡ true → Malformed ≡ setTime s d
+      unfolding setTime
+      time-late n = rw (eq-eqb (length d) 4 l, ← e, not-false b h, ← p, ← q, ← f, not-true t n)
+
+      pub time-right : not t ≡ false → (r : Settings) → r ≡ withTime s x y → To r ≡ setTime s d
+      unfolding setTime
+      time-right n r g = rw (eq-eqb (length d) 4 l, ← e, not-false b h, ← p, ← q, ← f, not-false t n, g)
+
+pub ruleset timing = (digits-alone, time-length, time-letters, time-late, time-right, needs)
+
+-- ---- the date
+
+module _ (s : Settings) (d : List ℕ) where
+  pub date-length : (length d ≡ 6 → ⊥) → Malformed ≡ setDate s d
+  unfolding setDate
+  date-length n = rw (ne-eqb (length d) 6 n)
+
+  module _ (l : length d ≡ 6) (b : Bool) (e : b ≡ all isDecimal d) where
+    pub date-letters : not b ≡ true → Malformed ≡ setDate s d
+    unfolding setDate
+    date-letters h = rw (eq-eqb (length d) 6 l, ← e, not-true b h)
+
+    module _ (h : not b ≡ false) (x y z : ℕ) (p : x ≡ decimal2 d) (q : y ≡ decimal2 (drop 2 d)) (w : z ≡ decimal2 (drop 4 d))
+        (t : Bool) (f : t ≡ (between 1 12 x && between 1 31 y)) where
+      pub date-none : not t ≡ true → Malformed ≡ setDate s d
+      unfolding setDate
+      date-none n = rw (eq-eqb (length d) 6 l, ← e, not-false b h, ← p, ← q, ← f, not-true t n)
+
+      pub date-right : not t ≡ false → (r : Settings) → r ≡ withDate s x y z → To r ≡ setDate s d
+      unfolding setDate
+      date-right n r g = rw (eq-eqb (length d) 6 l, ← e, not-false b h, ← p, ← q, ← w, ← f, not-false t n, g)
+
+pub ruleset dating = (digits-alone, date-length, date-letters, date-none, date-right, needs)
+
+-- ---- the speaker
+
+and-yes : (a : Bool) → (a && true) ≡ a
+and-yes true = refl
+and-yes false = refl
+
+-- data that are two bytes
+same-two : (d : List ℕ) (x y : ℕ) → same d (x ∷ y ∷ []) ≡ (length d is 2 && (d ! 0 is x && d ! 1 is y))
+unfolding same
+same-two [] x y = refl
+same-two (a ∷ []) x y = and-none (a is x) refl
+same-two (a ∷ b ∷ []) x y = rw (and-yes (b is y))
+same-two (a ∷ b ∷ c ∷ d) x y = rw (and-none (b is y) refl, and-none (a is x) refl, ne-eqb (length (a ∷ b ∷ c ∷ d)) 2 (λ e. omega arith))
+
+module _ (s : Settings) (d : List ℕ) (b : Bool) (e : b ≡ same d (ZERO ∷ ZERO ∷ [])) where
+  on-test : (length d is 2 && (d ! 0 is ZERO && d ! 1 is ZERO)) ≡ b
+  on-test = sym (e ∙ same-two d ZERO ZERO)
+
+  pub speaker-on : b ≡ true → (r : Settings) → r ≡ withSpeaker s ON → To r ≡ setSpeaker s d
+  unfolding setSpeaker
+  speaker-on h r g = rw (on-test, h, g)
+
+  module _ (h : b ≡ false) (t : Bool) (f : t ≡ same d (F ∷ F ∷ [])) where
+    off-test : (length d is 2 && (d ! 0 is F && d ! 1 is F)) ≡ t
+    off-test = sym (f ∙ same-two d F F)
+
+    pub speaker-off : t ≡ true → (r : Settings) → r ≡ withSpeaker s OFF → To r ≡ setSpeaker s d
+    unfolding setSpeaker
+    speaker-off k r g = rw (on-test, h, off-test, k, g)
+
+    pub speaker-neither : t ≡ false → Malformed ≡ setSpeaker s d
+    unfolding setSpeaker
+    speaker-neither k = rw (on-test, h, off-test, k)
+
+pub ruleset speaking = (speaker-on, speaker-off, speaker-neither, needs)
+
+-- ---- the time format
+
+module _ (s : Settings) (d : List ℕ) where
+  pub format-length : (length d ≡ 1 → ⊥) → Malformed ≡ setFormat s d
+  unfolding setFormat
+  format-length n = rw (ne-eqb (length d) 1 n)
+
+  module _ (l : length d ≡ 1) (x : ℕ) (p : x ≡ d ! 0) (b : Bool) (e : b ≡ (x is FORMAT-S || x is FORMAT-M)) where
+    pub format-other : not b ≡ true → Malformed ≡ setFormat s d
+    unfolding setFormat
+    format-other h = rw (eq-eqb (length d) 1 l, ← p, ← e, not-true b h)
+
+    pub format-right : not b ≡ false → (r : Settings) → r ≡ withFormat s x → To r ≡ setFormat s d
+    unfolding setFormat
+    format-right h r g = rw (eq-eqb (length d) 1 l, ← p, ← e, not-false b h, g)
+
+pub ruleset formatting = (format-length, format-other, format-right, needs)
+
+-- ---- the address
+
+module _ (s : Settings) (d : List ℕ) where
+  pub address-length : (length d ≡ 2 → ⊥) → Malformed ≡ setAddress s d
+  unfolding setAddress
+  address-length n = rw (ne-eqb (length d) 2 n)
+
+  module _ (l : length d ≡ 2) (x : Two) (e : x ≡ two d) where
+    pub address-letters : x ≡ Bad → Malformed ≡ setAddress s d
+    unfolding setAddress
+    address-letters h = rw (eq-eqb (length d) 2 l, two-none d (sym e ∙ h))
+
+    pub address-right : (v : ℕ) → x ≡ Value v → (r : Settings) → r ≡ withAddress s v → To r ≡ setAddress s d
+    unfolding setAddress
+    address-right v h r g = let w = two-some d v (sym e ∙ h) in rw (eq-eqb (length d) 2 l, w .0, w .1, g)
+
+pub ruleset addressing = (address-length, address-letters, address-right, needs)
+
+-- ---- one of them, by its label
+
+pub changed-to : (s : Settings) (x : Change) (t : Settings) → x ≡ To t → (r : Done) → r ≡ doneAs 0 t 0 → r ≡ changed s x
+unfolding changed
+changed-to s x t e r g = rw (e, g)
+
+pub changed-not : (s : Settings) (x : Change) → x ≡ Malformed → (r : Done) → r ≡ doneAs 22 s 0 → r ≡ changed s x
+unfolding changed
+changed-not s x e r g = rw (e, g)
+
+pub ruleset changing = (changed-to, changed-not, needs)
+
+module _ (s : Settings) (l : ℕ) (d : List ℕ) where
+  module _ (x : Change) (r : Done) (g : r ≡ changed s x) where
+    pub set-time : l ≡ TIME → x ≡ setTime s d → r ≡ setAs s l d
+    unfolding setAs
+    set-time e h = rw (e, ← h) g
+
+    pub set-speaker : l ≡ SPEAKER → x ≡ setSpeaker s d → r ≡ setAs s l d
+    unfolding setAs
+    set-speaker e h = rw (e, ← h) g
+
+    pub set-format : l ≡ FORMAT → x ≡ setFormat s d → r ≡ setAs s l d
+    unfolding setAs
+    set-format e h = rw (e, ← h) g
+
+    pub set-date : l ≡ DATE → x ≡ setDate s d → r ≡ setAs s l d
+    unfolding setAs
+    set-date e h = rw (e, ← h) g
+
+    pub set-address : l ≡ ADDRESS → x ≡ setAddress s d → r ≡ setAs s l d
+    unfolding setAs
+    set-address e h = rw (e, ← h) g
+
+  pub set-none : (l ≡ TIME → ⊥) → (l ≡ SPEAKER → ⊥) → (l ≡ FORMAT → ⊥) → (l ≡ ADDRESS → ⊥) → (l ≡ DATE → ⊥) →
+      (r : Done) → r ≡ doneAs 21 s 0 → r ≡ setAs s l d
+  unfolding setAs
+  set-none a b c f e r g = rw (ne-eqb l TIME a, ne-eqb l SPEAKER b, ne-eqb l FORMAT c, ne-eqb l DATE e, ne-eqb l ADDRESS f, g)
+
+pub ruleset labelled = (set-time, set-speaker, set-format, set-date, set-address, set-none, needs)
+
+-- ---- E
+
+-- the data behind a label
+behind-label : (l : ℕ) (d : List ℕ) → take (length (l ∷ d) - 1) (drop 1 (l ∷ d)) ≡ d
+behind-label l d = take-all (length (l ∷ d) - 1) d (omega arith)
+
+module _ (s : Settings) (m : List ℕ) where
+  -- the settings that are answered are those after the command
+  change-acts : (x : Change) (r : Done) → r ≡ changed s x → Acts (change (board s m) x) r m
+  unfolding change changed
+  change-acts (To t) r e = acts-done t m r e
+  change-acts Malformed r e = acts-refused 22 s m r e
+
+  set-acts : (l : ℕ) (d : List ℕ) (r : Done) → (l ≡ CONFIGURATION → ⊥) → r ≡ setAs s l d → Acts (writeSpecial (board s m) (l ∷ d)) r m
+  unfolding writeSpecial setAs
+  set-acts l d r n e =
+      by-test (l is TIME) (λ p. rw p (change-acts (setTime s d) r (rw p at e))) (λ a.
+      by-test (l is SPEAKER) (λ p. rw (a, p) (change-acts (setSpeaker s d) r (rw (a, p) at e))) (λ b.
+      by-test (l is FORMAT) (λ p. rw (a, b, p) (change-acts (setFormat s d) r (rw (a, b, p) at e))) (λ c.
+      by-test (l is DATE) (λ p. rw (a, b, c, p) (change-acts (setDate s d) r (rw (a, b, c, p) at e))) (λ f.
+      by-test (l is ADDRESS) (λ p. rw (a, b, c, f, p) (change-acts (setAddress s d) r (rw (a, b, c, f, p) at e))) (λ g.
+      rw (a, b, c, f, g, ne-eqb l CONFIGURATION n) (acts-refused 21 s m r (rw (a, b, c, f, g) at e)))))))
+
+  pub write-none : (text : List ℕ) (r : Done) → length text ≡ 0 → r ≡ doneAs 22 s 0 → Acts (writeSpecial (board s m) text) r m
+  unfolding writeSpecial
+  write-none [] r h e = acts-refused 22 s m r e
+  write-none (l ∷ d) r h e = absurd (omega arith)
+
+  pub write-lists : (text : List ℕ) (r : Done) (a : List ℕ) → (length text ≡ 0 → ⊥) → text ! 0 ≡ CONFIGURATION →
+      Acts (configure (board s m) (take (length text - 1) (drop 1 text))) r a → Acts (writeSpecial (board s m) text) r a
+  unfolding writeSpecial
+  write-lists [] r a h k e = absurd (h refl)
+  write-lists (l ∷ d) r a h k e = rw k (rw (behind-label l d) at e)
+
+  pub write-sets : (text : List ℕ) (r : Done) → (length text ≡ 0 → ⊥) → (text ! 0 ≡ CONFIGURATION → ⊥) →
+      r ≡ setAs s (text ! 0) (take (length text - 1) (drop 1 text)) → Acts (writeSpecial (board s m) text) r m
+  write-sets [] r h k e = absurd (h refl)
+  write-sets (l ∷ d) r h k e = set-acts l d r k (rw (behind-label l d) at e)
+
+pub ruleset writing = (write-none, write-lists, write-sets, needs)

@@ -1,0 +1,312 @@
+-- What the special functions that tell put into the reply buffer.
+use Prim.Native.Nat.{ℕ, _+_, _-_, _<_, _≤_, _^_}
+use mir.Syntax.{w16, w64}
+use mir.Val.{Fits}
+use mathlib.Core.Path.{_≡_, refl, sym, ap, _∙_}
+use mathlib.Core.List.{List, [], _∷_, _++_, append-assoc, append-nil}
+use mathlib.Core.Bool.{Bool, true, false, not}
+use mathlib.Core.Logic.{_⊎_, ⊎-elim, inl, inr}
+use native.Mathlib.Omega.{arith}
+use lib.ListN.{length, take, drop, length-append, length-drop}
+use lib.Seq.{length-take-le}
+use borrow.Author.Needs.{needs}
+use borrow.Author.Tests.{eq-eqb, ne-eqb, leb-true, not-true, not-false}
+use Rattle.octets.specs.Choice.{if_then_else_, _is_, _isn't_, _≤?_, _!_}
+use Rattle.octets.specs.Bytes.{COMMA, ZERO, E, F}
+use Rattle.octets.specs.Hex.{inHex4}
+use Rattle.octets.specs.Decimal.{inDecimal2}
+use Rattle.octets.specs.Buffer.{splice}
+use Rattle.octets.proofs.Tests.{by-test, split}
+use Rattle.octets.proofs.Buffers.{length-splice}
+use Rattle.octets.proofs.Ranges.{on}
+use Rattle.buffers.proofs.Splices.{splice-none, splice-next, splice-in, overlay-covers}
+use Rattle.board.specs.Settings.{ON, inRange}
+use Rattle.board.specs.Files.{sizeOf, filesOf, heads, used, unused}
+use Rattle.board.specs.Soundness.{holdsFiles}
+use Rattle.board.specs.declared.Settings.{Settings}
+use Rattle.board.proofs.Ranges.{range}
+use Rattle.board.proofs.Walking.{Standing, room, stand-start, stand-next, standing}
+use Rattle.board.proofs.Inside.{sound-ranged, sound-held, sound-least, sound-most, used-inside, unused-told, heads-step, heads-none}
+use Rattle.effects.specs.Reply.{replyOf}
+use Rattle.effects.specs.Effects.{Board, board, replied, refuse}
+use Rattle.special.specs.Special.{TIME, SPEAKER, POOL, CONFIGURATION, FORMAT, DATE}
+use Rattle.special.specs.Special.{tellTime, tellDate, tellSpeaker, tellPool, isTold, tell, readSpecial}
+use Rattle.effects.specs.Leaving.{doneAs, Replied, Told, Tells, Ready}
+use Rattle.effects.specs.declared.Done.{Done}
+use Rattle.effects.proofs.ReplyLengths.{reply-length}
+use Rattle.special.proofs.TellLengths.{told-fits}
+use Rattle.effects.proofs.Outcomes.{tells-refused, tells-replied}
+
+-- ---- labels that are told
+
+-- a label, by where it stands among the bytes
+module _ (l : ℕ) where
+  pub told-key : (l ≡ FORMAT) ⊎ (l ≡ DATE) → true ≡ isTold l
+  unfolding isTold
+  told-key h = ⊎-elim (λ e. rw e) (λ e. rw e) h
+
+  pub told-first : 0x20 ≤ l → l < 0x22 → true ≡ isTold l
+  unfolding isTold
+  told-first a b = sym (on isTold true 0x20 2 refl l a b)
+
+  pub told-second : 0x23 ≤ l → l < 0x25 → true ≡ isTold l
+  unfolding isTold
+  told-second a b = sym (on isTold true 0x23 2 refl l a b)
+
+  told-none : (l ≡ TIME → ⊥) → (l ≡ SPEAKER → ⊥) → (l ≡ FORMAT → ⊥) → (l ≡ DATE → ⊥) → (l ≡ CONFIGURATION → ⊥) → (l ≡ POOL → ⊥) → false ≡ isTold l
+  unfolding isTold
+  told-none a b c d e f = rw (ne-eqb l TIME a, ne-eqb l SPEAKER b, ne-eqb l FORMAT c, ne-eqb l DATE d, ne-eqb l CONFIGURATION e, ne-eqb l POOL f)
+
+  pub told-below : l < 0x20 → false ≡ isTold l
+  told-below h = told-none (λ e. omega arith) (λ e. omega arith) (λ e. omega arith) (λ e. omega arith) (λ e. omega arith) (λ e. omega arith)
+
+  pub told-between : 0x22 ≤ l → l < 0x23 → false ≡ isTold l
+  told-between a b = told-none (λ e. omega arith) (λ e. omega arith) (λ e. omega arith) (λ e. omega arith) (λ e. omega arith) (λ e. omega arith)
+
+  pub told-above : ((l ≡ FORMAT) ⊎ (l ≡ DATE) → ⊥) → 0x25 ≤ l → false ≡ isTold l
+  told-above n a = told-none (λ e. omega arith) (λ e. omega arith) (λ e. n (inl e)) (λ e. n (inr e)) (λ e. omega arith) (λ e. omega arith)
+
+pub ruleset listed = (told-key, told-first, told-second, told-below, told-between, told-above, needs)
+
+-- ---- a board that is ready
+
+module _ {s : Settings} {m out : List ℕ} (g : Ready s m out) where
+  pub ready-ranged : inRange s ≡ true
+  ready-ranged = sound-ranged s m (g .sound)
+
+  pub ready-held : holdsFiles (s .files) m ≡ true
+  ready-held = sound-held s m (g .sound)
+
+  pub ready-room : 128 ≤ length out
+  ready-room = omega (arith, sound-least s m (g .sound), g .room)
+
+  -- what memory holds is told in four digits
+  pub total-fits : Fits w16 (length m)
+  total-fits = record { fits = omega (arith, sound-most s m (g .sound)) }
+
+  pub rest-fits : (u : ℕ) → Fits w16 (length m - u)
+  rest-fits u = record { fits = omega (arith, sound-most s m (g .sound)) }
+
+-- ---- the time and the date
+
+-- each number has two digits
+module _ (s : Settings) (e : inRange s ≡ true) where
+  pub hour-small : s .hour < 100
+  hour-small = omega (arith, leb-true (s .hour) 23 (range s e .hour))
+
+  pub minute-small : s .minute < 100
+  minute-small = omega (arith, leb-true (s .minute) 59 (range s e .minute))
+
+  pub month-small : s .month < 100
+  month-small = omega (arith, leb-true (s .month) 12 (split (1 ≤? s .month) (range s e .month) .1))
+
+  pub day-small : s .day < 100
+  day-small = omega (arith, leb-true (s .day) 31 (split (1 ≤? s .day) (range s e .day) .1))
+
+  pub year-small : s .year < 100
+  year-small = omega (arith, leb-true (s .year) 99 (range s e .year))
+
+-- data that are put part by part are there
+module _ (out : List ℕ) (h : 128 ≤ length out) where
+  pub time-put : (s : Settings) (a b : List ℕ) → a ≡ splice out 27 (inDecimal2 (s .hour)) → b ≡ splice a 29 (inDecimal2 (s .minute)) →
+      Told out (tellTime s) b 4
+  unfolding tellTime inDecimal2
+  time-put s a b p q =
+      record { stored = q ∙ rw p (splice-next out 27 (inDecimal2 (s .hour)) (inDecimal2 (s .minute)) 29 (omega arith) refl); long = refl }
+
+  pub date-put : (s : Settings) (a b c : List ℕ) → a ≡ splice out 27 (inDecimal2 (s .month)) → b ≡ splice a 29 (inDecimal2 (s .day)) →
+      c ≡ splice b 31 (inDecimal2 (s .year)) → Told out (tellDate s) c 6
+  unfolding tellDate inDecimal2
+  date-put s a b c p q r =
+      let x = inDecimal2 (s .month) in
+      let y = inDecimal2 (s .day) in
+      let z = inDecimal2 (s .year) in
+      record {
+        stored = r ∙ rw (q, p, splice-next out 27 x y 29 (omega arith) refl) (splice-next out 27 (x ++ y) z 31 (omega arith) refl);
+        long = refl;
+      }
+
+pub ruleset clock = (hour-small, minute-small, month-small, day-small, year-small, time-put, date-put, needs)
+
+-- ---- the speaker
+
+pub character-on : (v : ℕ) → v ≡ ON → ZERO ≡ (if v is ON then ZERO else F)
+character-on v e = rw (eq-eqb v ON e)
+
+pub character-off : (v : ℕ) → (v ≡ ON → ⊥) → F ≡ (if v is ON then ZERO else F)
+character-off v n = rw (ne-eqb v ON n)
+
+pub speaker-put : (out : List ℕ) (s : Settings) (x : ℕ) (a : List ℕ) → x ≡ (if s .speaker is ON then ZERO else F) → a ≡ splice out 27 (x ∷ x ∷ []) →
+    Told out (tellSpeaker s) a 2
+unfolding tellSpeaker
+speaker-put out s x a e p =
+    by-test (s .speaker is ON)
+    (λ t. let z : x ≡ ZERO = rw t at e in rw t (record { stored = rw z at p; long = refl }))
+    (λ t. let z : x ≡ F = rw t at e in rw t (record { stored = rw z at p; long = refl }))
+
+pub ruleset speaker = (character-on, character-off, speaker-put, needs)
+
+-- ---- the pool
+
+pub pool-put : (s : Settings) (m out : List ℕ) (u : ℕ) (a b c : List ℕ) → Ready s m out → u ≡ used (filesOf (s .files) m) →
+    a ≡ splice out 27 (inHex4 (length m)) → b ≡ splice a 31 (COMMA ∷ []) → c ≡ splice b 32 (inHex4 (length m - u)) →
+    Told out (tellPool (board s m)) c 9
+unfolding tellPool inHex4
+pool-put s m out u a b c g e p q r =
+    let h = ready-room g in
+    let x = inHex4 (length m) in
+    let y : List ℕ = COMMA ∷ [] in
+    let z = inHex4 (unused (s .files) m) in
+    record {
+      stored = r ∙ rw (unused-told m (s .files) u e, q, p, splice-next out 27 x y 31 (omega arith) refl) (splice-next out 27 (x ++ y) z 32 (omega arith) refl);
+      long = refl;
+    }
+
+pub ruleset pool = (ready-held, ready-room, total-fits, rest-fits, used-inside, pool-put, needs)
+
+-- ---- the records
+
+-- so far told stands in the buffer, and what is left of memory makes up the rest
+pub record Gathering (m : List ℕ) (n : ℕ) (out out′ : List ℕ) (at place left : ℕ) : Type 0 where
+  pub stands : Standing m at left
+  pub room : length m + 64 ≤ length out
+  pub told : List ℕ
+  pub stored : out′ ≡ splice out 27 told
+  pub ends : place ≡ 27 + length told
+  pub few : length told ≤ at
+  pub long : length out′ ≡ length out
+  pub rest : told ++ heads (filesOf left (drop at m)) ≡ heads (filesOf n m)
+
+pub gather-start : (m : List ℕ) (n : ℕ) (out : List ℕ) → holdsFiles n m ≡ true → length m + 64 ≤ length out → Gathering m n out out 0 27 n
+gather-start m n out e h =
+    record {
+      stands = stand-start m n e;
+      room = h;
+      told = [];
+      stored = sym (splice-none out 27);
+      ends = refl;
+      few = omega arith;
+      long = refl;
+      rest = refl;
+    }
+
+module _ {m : List ℕ} {n : ℕ} {out out′ : List ℕ} {at place left : ℕ} (g : Gathering m n out out′ at place left) where
+  module _ (p : 0 < left) where
+    inside : at + 11 + sizeOf (drop at m) ≤ length m
+    inside = omega (arith, room m at left p (g .stands))
+
+    record-long : length (take 11 (drop at m)) ≡ 11
+    record-long = length-take-le 11 (drop at m) (rw (length-drop at m) (omega (arith, inside)))
+
+    pub gather-end : length m < 2 ^ 64 → Fits w64 (at + 11)
+    gather-end h = record { fits = omega (arith, inside) }
+
+    pub gather-room : place + length (take (at + 11 - at) (drop at m)) ≤ length out′
+    gather-room =
+        let z : at + 11 - at ≡ 11 = omega arith in
+        rw (z, record-long) (omega (arith, inside, g))
+
+    pub gather-next : (long : ℕ) (a : List ℕ) → long ≡ 11 + sizeOf (drop at m) → a ≡ splice out′ place (take (at + 11 - at) (drop at m)) →
+        Gathering m n out a (at + long) (place + 11) (left - 1)
+    gather-next long a e q =
+        let z : at + 11 - at ≡ 11 = omega arith in
+        let r : List ℕ = take 11 (drop at m) in
+        let t = g .told in
+        let i : 27 + length t ≤ length out = omega (arith, inside, g) in
+        let s : a ≡ splice out 27 (t ++ r) = q ∙ rw (z, g .stored) (splice-next out 27 t r place i (g .ends)) in
+        record {
+          stands = stand-next (g .stands) p long e;
+          room = g .room;
+          told = t ++ r;
+          stored = s;
+          ends = rw (length-append, record-long) (omega (arith, g .ends));
+          few = rw (length-append, record-long) (omega (arith, g .few));
+          long = rw (s, length-splice out 27 (t ++ r) (rw (length-append, record-long) (omega (arith, inside, g))));
+          rest = rw (e, append-assoc t r _) (ap (λ l. t ++ l) (sym (heads-step m at left p)) ∙ g .rest);
+        }
+
+  pub gather-whole : left ≤ 0 → Told out (heads (filesOf n m)) out′ (place - 27)
+  gather-whole p =
+      let t : g .told ≡ heads (filesOf n m) = sym (append-nil (g .told)) ∙ rw (heads-none m at left p) at (g .rest) in
+      record { stored = rw (← t) (g .stored); long = rw (← t) (omega (arith, g .ends)) }
+
+pub ruleset gathering = (gather-start, gather-end, gather-room, gather-next, gather-whole, standing, needs)
+
+-- ---- one of them, by its label
+
+module _ (s : Settings) (m : List ℕ) (l : ℕ) (out a : List ℕ) (k : ℕ) where
+  pub tell-time : l ≡ TIME → Told out (tellTime s) a k → Told out (tell (board s m) l) a k
+  unfolding tell
+  tell-time e t = rw e t
+
+  pub tell-speaker : l ≡ SPEAKER → Told out (tellSpeaker s) a k → Told out (tell (board s m) l) a k
+  unfolding tell
+  tell-speaker e t = rw e t
+
+  pub tell-format : l ≡ FORMAT → Told out (s .format ∷ []) a k → Told out (tell (board s m) l) a k
+  unfolding tell
+  tell-format e t = rw e t
+
+  pub tell-date : l ≡ DATE → Told out (tellDate s) a k → Told out (tell (board s m) l) a k
+  unfolding tell
+  tell-date e t = rw e t
+
+  pub tell-records : l ≡ CONFIGURATION → Told out (heads (filesOf (s .files) m)) a k → Told out (tell (board s m) l) a k
+  unfolding tell
+  tell-records e t = rw e t
+
+  pub tell-pool : (l ≡ TIME → ⊥) → (l ≡ SPEAKER → ⊥) → (l ≡ CONFIGURATION → ⊥) → (l ≡ FORMAT → ⊥) → (l ≡ DATE → ⊥) →
+      Told out (tellPool (board s m)) a k → Told out (tell (board s m) l) a k
+  unfolding tell
+  tell-pool f g h i j t = rw (ne-eqb l TIME f, ne-eqb l SPEAKER g, ne-eqb l FORMAT i, ne-eqb l DATE j, ne-eqb l CONFIGURATION h) t
+
+pub ruleset telling = (ready-ranged, ready-held, ready-room, tell-time, tell-speaker, tell-format, tell-date, tell-records, tell-pool, needs)
+
+-- ---- F
+
+-- by its label, if there is one
+read-some : (b : Board) (text : List ℕ) → (length text ≡ 0 → ⊥) → readSpecial b text ≡
+    (if not (isTold (text ! 0)) then refuse 21 b else if length text isn't 1 then refuse 22 b else replied b (replyOf E (text ! 0) (tell b (text ! 0))))
+unfolding readSpecial
+read-some b [] h = absurd (h refl)
+read-some b (l ∷ []) h = refl
+read-some b (l ∷ x ∷ d) h = rw (ne-eqb (length (l ∷ x ∷ d)) 1 (λ e. omega arith))
+
+module _ (s : Settings) (m out : List ℕ) where
+  pub read-none : (text : List ℕ) (r : Done) → length text ≡ 0 → r ≡ doneAs 22 s 0 → Tells (board s m) out (readSpecial (board s m) text) r out
+  unfolding readSpecial
+  read-none [] r h e = tells-refused 22 s m r e out
+  read-none (l ∷ d) r h e = absurd (omega arith)
+
+  module _ (l : ℕ) (g : Ready s m out) where
+    fits : 33 + length (tell (board s m) l) ≤ length out
+    fits = omega (arith, told-fits (board s m) l, reply-length E l (tell (board s m) l), g .room)
+
+    -- what is told leaves room for the reply around it
+    pub read-room : (a : List ℕ) (n : ℕ) → Told out (tell (board s m) l) a n → n + 33 ≤ length a
+    read-room a n t = rw (t .stored, length-splice out 27 (tell (board s m) l) (omega (arith, fits))) (omega (arith, fits, t .long))
+
+    replied-told : (a c : List ℕ) (n k : ℕ) → Told out (tell (board s m) l) a n → Replied a E l (take n (drop 27 a)) c k →
+        Tells (board s m) out (replied (board s m) (replyOf E l (tell (board s m) l))) (doneAs 0 s k) c
+    replied-told a c n k t y =
+        let d = tell (board s m) l in
+        let i : 27 + length d ≤ length out = omega (arith, fits) in
+        let z : take n (drop 27 a) ≡ d = rw (t .long, t .stored) (splice-in out 27 d i) in
+        tells-replied s m out (replyOf E l d) c k
+        (y .stored ∙ rw (z, t .stored) (overlay-covers out 27 d (replyOf E l d) i (rw reply-length (omega arith))))
+        (y .long ∙ ap (λ x. length (replyOf E l x)) z)
+
+  module _ (text : List ℕ) (h : length text ≡ 0 → ⊥) (b : Bool) (f : b ≡ isTold (text ! 0)) where
+    pub read-unknown : (r : Done) → not b ≡ true → r ≡ doneAs 21 s 0 → Tells (board s m) out (readSpecial (board s m) text) r out
+    read-unknown r n e = rw (read-some (board s m) text h, ← f, not-true b n) (tells-refused 21 s m r e out)
+
+    module _ (n : not b ≡ false) where
+      pub read-long : (r : Done) → (length text ≡ 1 → ⊥) → r ≡ doneAs 22 s 0 → Tells (board s m) out (readSpecial (board s m) text) r out
+      read-long r k e = rw (read-some (board s m) text h, ← f, not-false b n, ne-eqb (length text) 1 k) (tells-refused 22 s m r e out)
+
+      pub read-told : (a c : List ℕ) (i k : ℕ) → length text ≡ 1 → Ready s m out → Told out (tell (board s m) (text ! 0)) a i →
+          Replied a E (text ! 0) (take i (drop 27 a)) c k → Tells (board s m) out (readSpecial (board s m) text) (doneAs 0 s k) c
+      read-told a c i k l g t y =
+          rw (read-some (board s m) text h, ← f, not-false b n, eq-eqb (length text) 1 l) (replied-told (text ! 0) g a c i k t y)
+
+pub ruleset reading = (read-none, read-room, read-unknown, read-long, read-told, needs)

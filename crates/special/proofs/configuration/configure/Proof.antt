@@ -1,0 +1,44 @@
+use Rattle.special.proofs.Replacing.{replacing}
+use Rattle.special.proofs.configuration.configure.Statement.{statement}
+use Rattle.special.proofs.configuration.configure.Tie as tie
+
+refusal-requires : tie.Need-refusal-requires
+refusal-requires c κs = search replacing
+
+quiet-requires : tie.Need-quiet-requires
+quiet-requires c κs = search replacing
+
+returns : tie.Need-returns
+returns c = search replacing
+
+lay-requires : tie.Need-lay-requires
+lay-requires c κs = search replacing
+
+cast-with-files : tie.Need-cast-with-files
+cast-with-files c = search replacing
+
+with-files-requires : tie.Need-with-files-requires
+with-files-requires c κs = search replacing
+
+quiet-requires-2 : tie.Need-quiet-requires-2
+quiet-requires-2 c κs = search replacing
+
+same-length : tie.Need-same-length
+same-length c = search replacing
+
+returns-2 : tie.Need-returns-2
+returns-2 c = search replacing
+
+pub configure-spec : {M : Type 1} → statement M
+configure-spec =
+    tie.close
+    (tie.spec
+    refusal-requires
+    quiet-requires
+    returns
+    lay-requires
+    cast-with-files
+    with-files-requires
+    quiet-requires-2
+    same-length
+    returns-2)

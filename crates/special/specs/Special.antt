@@ -1,0 +1,133 @@
+-- The special functions: E sets, F tells.
+use Prim.Native.Nat.{ℕ}
+use mathlib.Core.Bool.{Bool, not, _&&_, _||_}
+use mathlib.Core.List.{List, [], _∷_, _++_}
+use lib.ListN.{length, drop}
+use Rattle.octets.specs.Choice.{if_then_else_, _is_, _≤?_, between, _!_, none, all}
+use Rattle.octets.specs.Hex.{inHex4}
+use Rattle.octets.specs.Carried.{isCarried2, carried2}
+use Rattle.octets.specs.Decimal.{isDecimal, decimal2, inDecimal2}
+use Rattle.octets.specs.Bytes.{COMMA, ZERO, E, F}
+use Rattle.board.specs.Settings.{FORMAT-S, FORMAT-M, OFF, ON, withTime, withDate, withFormat, withSpeaker, withAddress}
+use Rattle.board.specs.Files.{filesOf, heads, unused}
+use Rattle.effects.specs.Reply.{replyOf}
+use Rattle.effects.specs.Effects.{Board, board, Effect, done, replied, refuse}
+use Rattle.special.specs.Configuration.{configure}
+use Rattle.board.specs.declared.Settings.{Settings}
+use Rattle.special.specs.declared.Change.{Change}
+use Rattle.special.specs.declared.Change.the-variants.{To, Malformed}
+
+-- label 20H
+abbrev pub TIME : ℕ
+TIME = 0x20
+
+-- "!"
+abbrev pub SPEAKER : ℕ
+SPEAKER = 0x21
+
+-- "#"
+abbrev pub POOL : ℕ
+POOL = 0x23
+
+-- "$"
+abbrev pub CONFIGURATION : ℕ
+CONFIGURATION = 0x24
+
+-- "'"
+abbrev pub FORMAT : ℕ
+FORMAT = 0x27
+
+-- "7"
+abbrev pub ADDRESS : ℕ
+ADDRESS = 0x37
+
+-- ";"
+abbrev pub DATE : ℕ
+DATE = 0x3B
+
+-- "four digits HhMm, 00:00 to 23:59"
+unfoldable pub setTime : Settings → List ℕ → Change
+setTime s d =
+    if length d is 4 && (all isDecimal d && (decimal2 d ≤? 23 && decimal2 (drop 2 d) ≤? 59))
+    then To (withTime s (decimal2 d) (decimal2 (drop 2 d)))
+    else Malformed
+
+-- ""00" speaker on, "FF" off"
+unfoldable pub setSpeaker : Settings → List ℕ → Change
+setSpeaker s d =
+    if length d is 2 && (d ! 0 is ZERO && d ! 1 is ZERO) then To (withSpeaker s ON)
+    else if length d is 2 && (d ! 0 is F && d ! 1 is F) then To (withSpeaker s OFF)
+    else Malformed
+
+-- ""S" or "M""
+unfoldable pub setFormat : Settings → List ℕ → Change
+setFormat s d = if length d is 1 && (d ! 0 is FORMAT-S || d ! 0 is FORMAT-M) then To (withFormat s (d ! 0)) else Malformed
+
+-- "six digits MmDdYy, month 01 to 12, day 01 to 31"
+unfoldable pub setDate : Settings → List ℕ → Change
+setDate s d =
+    if length d is 6 && (all isDecimal d && (between 1 12 (decimal2 d) && between 1 31 (decimal2 (drop 2 d))))
+    then To (withDate s (decimal2 d) (decimal2 (drop 2 d)) (decimal2 (drop 4 d)))
+    else Malformed
+
+-- "two hex digits, the serial address from the next frame on"
+unfoldable pub setAddress : Settings → List ℕ → Change
+setAddress s d = if length d is 2 && isCarried2 d then To (withAddress s (carried2 d)) else Malformed
+
+-- "a command to set the serial address", right or not
+abbrev pub setsAddress : ℕ → List ℕ → Bool
+setsAddress c d = c is E && d ! 0 is ADDRESS
+
+-- 22 "data missing, in excess, or malformed"
+unfoldable pub change : Board → Change → Effect
+change b (To s) = done (board s (b .memory))
+change b Malformed = refuse 22 b
+
+-- E: "a known command without its label is 22"; 21 "unknown function label"
+unfoldable pub writeSpecial : Board → List ℕ → Effect
+writeSpecial b [] = refuse 22 b
+writeSpecial b (label ∷ d) =
+    if label is TIME then change b (setTime (b .set) d)
+    else if label is SPEAKER then change b (setSpeaker (b .set) d)
+    else if label is FORMAT then change b (setFormat (b .set) d)
+    else if label is DATE then change b (setDate (b .set) d)
+    else if label is ADDRESS then change b (setAddress (b .set) d)
+    else if label is CONFIGURATION then configure b d
+    else refuse 21 b
+
+-- ""00" speaker on, "FF" off"
+unfoldable pub tellSpeaker : Settings → List ℕ
+tellSpeaker s = if s .speaker is ON then ZERO ∷ ZERO ∷ [] else F ∷ F ∷ []
+
+-- ""#" gives POOL,pool, total and unused, four hex digits each"
+unfoldable pub tellPool : Board → List ℕ
+tellPool b = inHex4 (length (b .memory)) ++ (COMMA ∷ inHex4 (unused (b .set .files) (b .memory)))
+
+-- the time and the date, as they are set
+unfoldable pub tellTime : Settings → List ℕ
+tellTime s = inDecimal2 (s .hour) ++ inDecimal2 (s .minute)
+
+unfoldable pub tellDate : Settings → List ℕ
+tellDate s = inDecimal2 (s .month) ++ (inDecimal2 (s .day) ++ inDecimal2 (s .year))
+
+-- "F: labels 20H, "!", "'", ";", "$" and "#""
+unfoldable pub isTold : ℕ → Bool
+isTold label = label is TIME || label is SPEAKER || label is FORMAT || label is DATE || label is CONFIGURATION || label is POOL
+
+-- "Replies use the layouts above"
+unfoldable pub tell : Board → ℕ → List ℕ
+tell b label =
+    if label is TIME then tellTime (b .set)
+    else if label is SPEAKER then tellSpeaker (b .set)
+    else if label is FORMAT then b .set .format ∷ []
+    else if label is DATE then tellDate (b .set)
+    else if label is CONFIGURATION then heads (filesOf (b .set .files) (b .memory))
+    else tellPool b
+
+-- F: 21 "unknown function label"; "without data", else 22; the write code of its reply is E
+unfoldable pub readSpecial : Board → List ℕ → Effect
+readSpecial b [] = refuse 22 b
+readSpecial b (label ∷ d) =
+    if not (isTold label) then refuse 21 b
+    else if not (none d) then refuse 22 b
+    else replied b (replyOf E label (tell b label))

@@ -1,0 +1,307 @@
+// The special functions: E sets, F tells.
+use crate::Change;
+use crate::configuration::configure;
+use board::Settings;
+use board::files::RECORD;
+use board::files::file_length;
+use board::files::used;
+use board::setting::OFF;
+use board::setting::ON;
+use board::setting::in_date;
+use board::setting::in_time;
+use board::setting::is_format;
+use buffers::copying::copy_at;
+use buffers::decimal::all_decimal;
+use buffers::decimal::decimal_at;
+use buffers::decimal::put_decimal;
+use buffers::hex::put_four;
+use effects::Done;
+use effects::effects::quiet;
+use effects::numbers::MALFORMED;
+use effects::numbers::UNKNOWN;
+use effects::reply::DATA;
+use effects::reply::reply;
+use octets::bytes::COMMA;
+use octets::bytes::E;
+use octets::bytes::F;
+use octets::bytes::ZERO;
+use octets::hex::Two;
+use octets::hex::two_at;
+use octets::slices::same;
+ghost use mathlib.Core.Path.{_≡_};
+ghost use mathlib.Core.Bool.{true};
+ghost use Prim.Native.Nat.{_+_, _≤_};
+ghost use lib.ListN.{length};
+ghost use mathlib.Core.List.{[], _∷_};
+ghost use Rattle.octets.specs.Choice.{if_then_else_, _is_};
+ghost use Rattle.octets.specs.Bytes.{ZERO, F};
+ghost use Rattle.board.specs.Settings.{ON, inRange};
+ghost use Rattle.board.specs.Files.{filesOf, heads};
+ghost use Rattle.board.specs.Soundness.{holdsFiles, sound};
+ghost use Rattle.effects.specs.Effects.{board};
+ghost use Rattle.special.specs.Special.{setTime, setSpeaker, setFormat, setDate, setAddress, writeSpecial, tellTime, tellDate, tellSpeaker, tellPool, isTold, tell, readSpecial};
+ghost use Rattle.special.specs.Changing.{changed, setAs};
+ghost use Rattle.effects.specs.Leaving.{Told, Acts, Tells, Ready};
+
+// the function labels
+const TIME: u8 = 0x20;
+
+const SPEAKER: u8 = 0x21;
+
+const POOL: u8 = 0x23;
+
+const CONFIGURATION: u8 = 0x24;
+
+const FORMAT: u8 = 0x27;
+
+const ADDRESS: u8 = 0x37;
+
+const DATE: u8 = 0x3B;
+
+// "four digits HhMm, 00:00 to 23:59"
+fn set_time(s: Settings, d: &[u8]) -> Change
+    ensures { λ r. ⌜ r ≡ setTime s (now (d .entry)) ⌝ }
+{
+    if d.len() != 4 {
+        return Change::Malformed;
+    }
+    if !all_decimal(d) {
+        return Change::Malformed;
+    }
+    let hour = decimal_at(d, 0);
+    let minute = decimal_at(d, 2);
+    if !in_time(hour, minute) {
+        return Change::Malformed;
+    }
+    Change::To(s.with_time(hour, minute))
+}
+
+// ""00" speaker on, "FF" off"
+fn set_speaker(s: Settings, d: &[u8]) -> Change
+    ensures { λ r. ⌜ r ≡ setSpeaker s (now (d .entry)) ⌝ }
+{
+    let on = [ZERO, ZERO];
+    if same(d, &on) {
+        return Change::To(s.with_speaker(ON));
+    }
+    let off = [F, F];
+    if same(d, &off) {
+        return Change::To(s.with_speaker(OFF));
+    }
+    Change::Malformed
+}
+
+// ""S" or "M""
+fn set_format(s: Settings, d: &[u8]) -> Change
+    ensures { λ r. ⌜ r ≡ setFormat s (now (d .entry)) ⌝ }
+{
+    if d.len() != 1 {
+        return Change::Malformed;
+    }
+    let format = d[0];
+    if !is_format(format) {
+        return Change::Malformed;
+    }
+    Change::To(s.with_format(format))
+}
+
+// "six digits MmDdYy, month 01 to 12, day 01 to 31"
+fn set_date(s: Settings, d: &[u8]) -> Change
+    ensures { λ r. ⌜ r ≡ setDate s (now (d .entry)) ⌝ }
+{
+    if d.len() != 6 {
+        return Change::Malformed;
+    }
+    if !all_decimal(d) {
+        return Change::Malformed;
+    }
+    let month = decimal_at(d, 0);
+    let day = decimal_at(d, 2);
+    let year = decimal_at(d, 4);
+    if !in_date(month, day) {
+        return Change::Malformed;
+    }
+    Change::To(s.with_date(month, day, year))
+}
+
+// "two hex digits, the serial address from the next frame on"
+fn set_address(s: Settings, d: &[u8]) -> Change
+    ensures { λ r. ⌜ r ≡ setAddress s (now (d .entry)) ⌝ }
+{
+    if d.len() != 2 {
+        return Change::Malformed;
+    }
+    match two_at(d, 0) {
+        Two::Bad => Change::Malformed,
+        Two::Value(address) => Change::To(s.with_address(address)),
+    }
+}
+
+// 22, or the next settings.
+fn change(s: Settings, next: Change) -> Done
+    ensures { λ r. ⌜ r ≡ changed s next ⌝ }
+{
+    match next {
+        Change::To(settings) => quiet(settings, 0),
+        Change::Malformed => quiet(s, MALFORMED),
+    }
+}
+
+// E, but for "$": the settings alone change.
+fn set(s: Settings, label: u8, d: &[u8]) -> Done
+    ensures { λ r. ⌜ r ≡ setAs s label (now (d .entry)) ⌝ }
+{
+    match label {
+        TIME => change(s, set_time(s, d)),
+        SPEAKER => change(s, set_speaker(s, d)),
+        FORMAT => change(s, set_format(s, d)),
+        DATE => change(s, set_date(s, d)),
+        ADDRESS => change(s, set_address(s, d)),
+        _ => quiet(s, UNKNOWN),
+    }
+}
+
+// E: "a known command without its label is 22".
+pub fn write_special(s: Settings, m: &mut [u8], text: &[u8]) -> Done
+    requires { ⌜ sound s (now m) ≡ true ⌝ }
+    ensures { λ r. ⌜ Acts (writeSpecial (board s (now (m .entry))) (now (text .entry))) r (now (m .exit)) ⌝ }
+{
+    if text.len() == 0 {
+        return quiet(s, MALFORMED);
+    }
+    let label = text[0];
+    if label == CONFIGURATION {
+        return configure(s, m, &text[1..]);
+    }
+    set(s, label, &text[1..])
+}
+
+// The time, as it is set.
+fn tell_time(s: Settings, out: &mut [u8]) -> usize
+    requires { ⌜ (inRange s ≡ true) × (128 ≤ length (now out)) ⌝ }
+    ensures { λ r. ⌜ Told (now (out .entry)) (tellTime s) (now (out .exit)) r ⌝ }
+{
+    put_decimal(out, DATA, s.hour);
+    put_decimal(out, DATA + 2, s.minute);
+    4
+}
+
+// The date, as it is set.
+fn tell_date(s: Settings, out: &mut [u8]) -> usize
+    requires { ⌜ (inRange s ≡ true) × (128 ≤ length (now out)) ⌝ }
+    ensures { λ r. ⌜ Told (now (out .entry)) (tellDate s) (now (out .exit)) r ⌝ }
+{
+    put_decimal(out, DATA, s.month);
+    put_decimal(out, DATA + 2, s.day);
+    put_decimal(out, DATA + 4, s.year);
+    6
+}
+
+// The character of "00" or of "FF".
+fn speaker_character(speaker: u8) -> u8
+    ensures { λ r. ⌜ r ≡ (if speaker is ON then ZERO else F) ⌝ }
+{
+    if speaker == ON { ZERO } else { F }
+}
+
+// ""00" speaker on, "FF" off"
+fn tell_speaker(s: Settings, out: &mut [u8]) -> usize
+    requires { ⌜ 128 ≤ length (now out) ⌝ }
+    ensures { λ r. ⌜ Told (now (out .entry)) (tellSpeaker s) (now (out .exit)) r ⌝ }
+{
+    let character = speaker_character(s.speaker);
+    let both = [character, character];
+    copy_at(out, DATA, &both);
+    2
+}
+
+// The time format.
+fn tell_format(s: Settings, out: &mut [u8]) -> usize
+    requires { ⌜ 128 ≤ length (now out) ⌝ }
+    ensures { λ r. ⌜ Told (now (out .entry)) (s .format ∷ []) (now (out .exit)) r ⌝ }
+{
+    let format = s.format;
+    let one = [format];
+    copy_at(out, DATA, &one);
+    1
+}
+
+// The records of n files, one after another.
+fn tell_records(m: &[u8], n: usize, out: &mut [u8]) -> usize
+    requires { ⌜ (holdsFiles n (now m) ≡ true) × (length (now m) + 64 ≤ length (now out)) ⌝ }
+    ensures { λ r. ⌜ Told (now (out .entry)) (heads (filesOf n (now (m .entry)))) (now (out .exit)) r ⌝ }
+{
+    let mut at: usize = 0;
+    let mut place = DATA;
+    let mut left = n;
+    while 0 < left {
+        let end = at + RECORD;
+        copy_at(out, place, &m[at..end]);
+        at += file_length(m, at);
+        place += RECORD;
+        left -= 1;
+    }
+    place - DATA
+}
+
+// ""#" gives POOL,pool, total and unused, four hex digits each"
+fn tell_pool(s: Settings, m: &[u8], out: &mut [u8]) -> usize
+    requires { ⌜ Ready s (now m) (now out) ⌝ }
+    ensures { λ r. ⌜ Told (now (out .entry)) (tellPool (board s (now (m .entry)))) (now (out .exit)) r ⌝ }
+{
+    let unused = m.len() - used(m, s.files as usize);
+    put_four(out, DATA, m.len() as u16);
+    let comma = [COMMA];
+    copy_at(out, DATA + 4, &comma);
+    put_four(out, DATA + 5, unused as u16);
+    9
+}
+
+// "F: labels 20H, "!", "'", ";", "$" and "#""
+fn is_told(label: u8) -> bool
+    ensures { λ r. ⌜ r ≡ isTold label ⌝ }
+{
+    match label {
+        TIME | SPEAKER | POOL | CONFIGURATION | FORMAT | DATE => true,
+        _ => false,
+    }
+}
+
+// "Replies use the layouts above".
+fn tell(s: Settings, m: &[u8], label: u8, out: &mut [u8]) -> usize
+    requires { ⌜ Ready s (now m) (now out) ⌝ }
+    ensures { λ r. ⌜ Told (now (out .entry)) (tell (board s (now (m .entry))) label) (now (out .exit)) r ⌝ }
+{
+    match label {
+        TIME => tell_time(s, out),
+        SPEAKER => tell_speaker(s, out),
+        FORMAT => tell_format(s, out),
+        DATE => tell_date(s, out),
+        CONFIGURATION => tell_records(m, s.files as usize, out),
+        _ => tell_pool(s, m, out),
+    }
+}
+
+// F: "without data".
+pub fn read_special(s: Settings, m: &[u8], text: &[u8], out: &mut [u8]) -> Done
+    requires { ⌜ Ready s (now m) (now out) ⌝ }
+    ensures { λ r. ⌜ Tells (board s (now (m .entry))) (now (out .entry)) (readSpecial (board s (now (m .entry))) (now (text .entry))) r (now (out .exit)) ⌝ }
+{
+    if text.len() == 0 {
+        return quiet(s, MALFORMED);
+    }
+    let label = text[0];
+    if !is_told(label) {
+        return quiet(s, UNKNOWN);
+    }
+    if text.len() != 1 {
+        return quiet(s, MALFORMED);
+    }
+    let n = tell(s, m, label, out);
+    let length = reply(out, E, label, n);
+    Done {
+        number: 0,
+        settings: s,
+        length,
+    }
+}
