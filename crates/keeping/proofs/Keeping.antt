@@ -6,7 +6,7 @@ use mathlib.Core.List.{List, [], _∷_}
 use mathlib.Core.Bool.{Bool, true, false, not, _&&_, _||_}
 use native.Mathlib.Omega.{arith}
 use lib.ListN.{length}
-use borrow.Author.Tests.{ltb-false, eqb-true, not-false}
+use borrow.Author.Tests.{ltb-false, eqb-true}
 use Rattle.octets.specs.Choice.{_is_, _isn't_, _<?_, _!_, none, all}
 use Rattle.octets.specs.Bytes.{A, B, E, F, G, H, isPlain}
 use Rattle.octets.proofs.Tests.{choice, never}
@@ -23,7 +23,7 @@ use Rattle.board.proofs.SoundParts.{parts, sound-parts, sound-whole}
 use Rattle.effects.specs.Effects.{Board, board, Effect, done, replied, refuse}
 use Rattle.commands.specs.Commands.{findOn, holding}
 use Rattle.commands.specs.Commands.{putMessage, writeFile, getContent, readFile}
-use Rattle.records.specs.Records.{isRecords, recordsIn, labelsIn, needed, laid}
+use Rattle.records.specs.Records.{isRecords, recordsIn, labelsIn, needed, refusal, laid}
 use Rattle.special.specs.Configuration.{configure}
 use Rattle.special.specs.Special.{TIME, SPEAKER, FORMAT, DATE, ADDRESS, CONFIGURATION, setsAddress}
 use Rattle.special.specs.Special.{setTime, setSpeaker, setFormat, setDate, setAddress, change}
@@ -33,6 +33,7 @@ use Rattle.special.specs.declared.Change.{Change}
 use Rattle.special.specs.declared.Change.the-variants.{To, Malformed}
 use Rattle.keeping.proofs.Messages.{fileIn, content, put-others, holding-files, holding-length, holding-sound}
 use Rattle.records.proofs.RecordLaws.{laid-length, laid-sound}
+use Rattle.records.proofs.Refusing.{taken}
 use Rattle.keeping.proofs.Changes.{KeptBy, time-keeps, date-keeps, format-keeps, speaker-keeps, address-keeps}
 use Rattle.special.proofs.TellLengths.{told-fits}
 use Rattle.effects.proofs.ReplyLengths.{content-fits}
@@ -176,10 +177,9 @@ module _ (b : Board) (c : ℕ) where
   configure-effects : (label : ℕ) (d : List ℕ) → configures c (label ∷ d) ≡ true → Effects b c (label ∷ d) (configure b d)
   unfolding configure
   configure-effects label d w =
-      choice P (not (isRecords FILES d)) (λ e. refuses (label ∷ d) 25) (λ e.
-      choice P (not (distinct (labelsIn (recordsIn d) d))) (λ f. refuses (label ∷ d) 26) (λ f.
-      choice P (length (b .memory) <? needed (recordsIn d) d) (λ g. refuses (label ∷ d) 27) (λ g.
-      fit (not-false _ e) (not-false _ f) (ltb-false (length (b .memory)) (needed (recordsIn d) d) g))))
+      choice P (refusal d (length (b .memory)) is 0)
+      (λ e. let t = taken d (length (b .memory)) (eqb-true (refusal d (length (b .memory))) 0 e) in fit (t .good) (t .apart) (t .fits))
+      (λ e. refuses (label ∷ d) (refusal d (length (b .memory))))
     where
       P : Effect → Type 0
       P = Effects b c (label ∷ d)

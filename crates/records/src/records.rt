@@ -17,8 +17,8 @@ ghost use lib.ListN.{length, drop};
 ghost use Rattle.octets.specs.Choice.{among};
 ghost use Rattle.octets.specs.Buffer.{splice};
 ghost use Rattle.board.specs.Files.{distinct};
-ghost use Rattle.records.specs.Records.{isRecords, labelsIn, needed, neededBy, sizeIn, stored, laid};
-ghost use Rattle.records.specs.Filing.{startsRecord, refusal, emptyFile, Spot, Listed};
+ghost use Rattle.records.specs.Records.{isRecords, labelsIn, needed, neededBy, refusal, sizeIn, stored, laid};
+ghost use Rattle.records.specs.Filing.{startsRecord, emptyFile, Spot, Listed};
 
 // Whether a record of the list stands at a place; "SIZE 0000 is allowed only in a last TEXT record".
 fn starts_record(d: &[u8], at: usize) -> bool

@@ -4,7 +4,7 @@ use Rattle.board.specs.Files.{sizeOf, filesOf, layout, heads, used, unused, lab
 use Rattle.board.specs.Soundness.{isLabel, isKind, isProtection, isSize, isStartCode, isStopCode, isCodes, isRecord, isContent, isFileAt, holdsFiles, soundMemory, sound}
 use Rattle.effects.specs.Reply.{replyOf}
 use Rattle.commands.specs.Commands.{holding, putMessage, writeFile, getContent, readFile}
-use Rattle.records.specs.Records.{isRecords, labelsIn, neededBy, needed, sizeIn, stored, laid}
+use Rattle.records.specs.Records.{isRecords, labelsIn, neededBy, needed, refusal, sizeIn, stored, laid}
 use Rattle.special.specs.Configuration.{configure}
 use Rattle.special.specs.Special.{setTime, setSpeaker, setFormat, setDate, setAddress, change, writeSpecial, tellTime, tellDate, tellSpeaker, tellPool, isTold, tell, readSpecial}
 use Rattle.commands.specs.Blocks.{command, runBlock}
@@ -22,7 +22,7 @@ unfolding
     isLabel isKind isProtection isSize isStartCode isStopCode isCodes isRecord isContent isFileAt holdsFiles soundMemory sound
     replyOf
     holding putMessage writeFile getContent readFile
-    isRecords labelsIn neededBy needed sizeIn stored laid configure
+    isRecords labelsIn neededBy needed refusal sizeIn stored laid configure
     setTime setSpeaker setFormat setDate setAddress change writeSpecial tellTime tellDate tellSpeaker tellPool isTold tell readSpecial
     command runBlock
     count measure onto runBlocks runFrame run

@@ -1,5 +1,5 @@
 -- "$" as the code does it: refused with its number, or all files replaced.
-use Prim.Native.Nat.{ℕ, _/_, _≤_, _<_}
+use Prim.Native.Nat.{ℕ, _/_}
 use mathlib.Core.Path.{_≡_, refl, sym, _∙_}
 use mathlib.Core.List.{List}
 use mathlib.Core.Bool.{true}
@@ -7,61 +7,31 @@ use native.Mathlib.Omega.{arith}
 use mir.Syntax.{w8}
 use mir.Val.{Fits}
 use borrow.Author.Needs.{needs}
-use borrow.Author.Tests.{le-ltb, ltb-false}
+use borrow.Author.Tests.{ne-eqb}
 use lib.ListN.{length}
-use Rattle.octets.specs.Choice.{_<?_}
-use Rattle.octets.proofs.Tests.{by-test}
-use Rattle.board.specs.Files.{distinct}
 use Rattle.board.specs.Settings.{withFiles}
 use Rattle.board.specs.Soundness.{sound}
 use Rattle.board.specs.declared.Settings.{Settings}
 use Rattle.board.proofs.Inside.{sound-most}
+use Rattle.records.specs.Records.{refusal, laid}
+use Rattle.records.specs.Filing.{Listed}
+use Rattle.records.proofs.RecordLaws.{records-of}
+use Rattle.records.proofs.Refusing.{taken}
 use Rattle.effects.specs.Effects.{board, done, refuse}
-use Rattle.records.specs.Records.{isRecords, labelsIn, needed, laid}
-use Rattle.special.specs.Configuration.{configure}
-use Rattle.records.specs.Filing.{refusal, Listed}
 use Rattle.effects.specs.Leaving.{doneAs, Acts}
 use Rattle.effects.specs.declared.Done.{Done}
-use Rattle.records.proofs.RecordLaws.{records-of}
 use Rattle.effects.proofs.Outcomes.{acts-refused, acts-done}
-
--- a list that is not refused
-record Taken (d : List ℕ) (room : ℕ) : Type 0 where
-  good : isRecords 64 d ≡ true
-  apart : distinct (labelsIn (length d / 11) d) ≡ true
-  fits : needed (length d / 11) d ≤ room
-
-taken : (d : List ℕ) (room : ℕ) → refusal d room ≡ 0 → Taken d room
-unfolding refusal
-taken d room e =
-    by-test (isRecords 64 d)
-    (λ a.
-    by-test (distinct (labelsIn (length d / 11) d))
-    (λ b.
-    by-test (room <? needed (length d / 11) d)
-    (λ c. let z : 27 ≡ 0 = rw (a, b, c) at e in absurd (omega arith))
-    (λ c. record { good = a; apart = b; fits = ltb-false room (needed (length d / 11) d) c }))
-    (λ b. let z : 26 ≡ 0 = rw (a, b) at e in absurd (omega arith)))
-    (λ a. let z : 25 ≡ 0 = rw a at e in absurd (omega arith))
+use Rattle.special.specs.Configuration.{configure}
 
 -- by the definitions
 module _ (s : Settings) (m d : List ℕ) where
   configure-not : (refusal d (length m) ≡ 0 → ⊥) → configure (board s m) d ≡ refuse (refusal d (length m)) (board s m)
-  unfolding configure refusal
-  configure-not n =
-      by-test (isRecords 64 d)
-      (λ a.
-      by-test (distinct (labelsIn (length d / 11) d))
-      (λ b.
-      by-test (length m <? needed (length d / 11) d) (λ c. rw (a, b, c)) (λ c. absurd (n (rw (a, b, c)))))
-      (λ b. rw (a, b)))
-      (λ a. rw a)
+  unfolding configure
+  configure-not n = rw (ne-eqb (refusal d (length m)) 0 n)
 
   configure-done : refusal d (length m) ≡ 0 → configure (board s m) d ≡ done (board (withFiles s (length d / 11)) (laid (length d / 11) (length m) d))
   unfolding configure
-  configure-done e =
-      let t = taken d (length m) e in
-      rw (t .good, t .apart, le-ltb (length m) (needed (length d / 11) d) (t .fits))
+  configure-done e = rw e
 
 -- k says why the list is refused
 module _ (m d : List ℕ) (k : ℕ) (e : k ≡ refusal d (length m)) where
