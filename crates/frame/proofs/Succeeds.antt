@@ -6,8 +6,8 @@ use Prim.Native.Nat.{ℕ, _≤_}
 use native.Mathlib.Omega.{arith}
 use lib.Dec.{lit≤}
 use lib.ListN.{length}
-use borrow.Author.Tests.{ltb-false, le-ltb, not-false}
-use Rattle.octets.specs.Choice.{if_then_else_, _<?_, all, same}
+use borrow.Author.Tests.{le-ltb, eqb-true, eqb-false, not-false}
+use Rattle.octets.specs.Choice.{if_then_else_, _is_, all, same}
 use Rattle.octets.specs.Bytes.{isPlain}
 use Rattle.octets.proofs.Tests.{choice}
 use Rattle.octets.proofs.Lists.{same-eq, same-self}
@@ -16,10 +16,11 @@ use Rattle.body.specs.Body.{Block, block, hasRead}
 use Rattle.reading.specs.Reading.{Reading, refused, frame, read}
 use Rattle.reading.proofs.FrameLaws.{read-number}
 use Rattle.forms.specs.Forms.{render}
-use Rattle.writing.specs.Output.{Output, isForm, isOver, unwritten, delivered, put}
+use Rattle.writing.specs.Output.{Output, isForm, isOver, unwritten, delivered, putNumber, put}
 use Rattle.writing.specs.Writing.{write}
 use Rattle.writing.specs.Reforming.{allRight, checked, putRead, reform}
 use Rattle.writing.specs.Joining.{putJoined, join}
+use Rattle.writing.proofs.Results.{put-fits}
 use Rattle.frame.proofs.Limits.{render-length}
 
 -- ---- putting
@@ -38,14 +39,15 @@ passed {q} t n o h f = choice (Only q) t (λ e. refused-not n o h) f
 
 module _ (k : ℕ) (h : List ℕ) (bs : List Block) (o : List ℕ) where
   put-gives : isOver k h bs ≡ false → length (render k h bs) ≤ length o → put k h bs o ≡ delivered (render k h bs) o
-  unfolding put
+  unfolding put putNumber
   put-gives v r = rw (v, le-ltb (length o) (length (render k h bs)) r)
 
   put-only-if : {q : Type 0} → (isOver k h bs ≡ false → length (render k h bs) ≤ length o → q) → Only q (put k h bs o)
   unfolding put
-  put-only-if f =
-      passed (isOver k h bs) 18 o (lit≤ tt) (λ v. passed (length o <? length (render k h bs)) 14 o (lit≤ tt)
-      (λ r. record { holds = λ z. f v (ltb-false (length o) (length (render k h bs)) r) }))
+  put-only-if {q} f =
+      choice (Only q) (putNumber k h bs (length o) is 0)
+      (λ e. let w = put-fits k h bs (length o) (eqb-true (putNumber k h bs (length o)) 0 e) in record { holds = λ z. f (w .0) (w .1) })
+      (λ e. record { holds = λ z. absurd (eqb-false (putNumber k h bs (length o)) 0 e z) })
 
 -- ---- writing
 

@@ -17,9 +17,9 @@ use Rattle.octets.proofs.Lists.{all-at}
 use Rattle.board.specs.Settings.{FORMAT-S, FORMAT-M, OFF, ON, inRange}
 use Rattle.board.specs.declared.Settings.{Settings}
 use Rattle.board.proofs.Ranges.{time-ranged, date-ranged, format-ranged, speaker-ranged, address-ranged}
-use Rattle.special.specs.Special.{setTime, setSpeaker, setFormat, setDate, setAddress}
+use Rattle.special.specs.Special.{TIME, SPEAKER, FORMAT, DATE, ADDRESS, setTime, setSpeaker, setFormat, setDate, setAddress, setBy}
 use Rattle.special.specs.declared.Change.{Change}
-use Rattle.special.specs.declared.Change.the-variants.{To, Malformed}
+use Rattle.special.specs.declared.Change.the-variants.{To, Malformed, Unknown}
 
 -- what a change from s to t keeps; the test says whether it may set the address
 pub record Kept (moves : Bool) (s t : Settings) : Type 0 where
@@ -32,6 +32,7 @@ pub record Kept (moves : Bool) (s t : Settings) : Type 0 where
 abbrev pub KeptBy : Bool → Settings → Change → Type 0
 KeptBy moves s (To t) = Kept moves s t
 KeptBy moves s Malformed = Unit {0}
+KeptBy moves s Unknown = Unit {0}
 
 digit-at : (d : List ℕ) (k : ℕ) → all isDecimal d ≡ true → d ! k ≤ 0x39
 unfolding isDecimal
@@ -94,3 +95,13 @@ module _ (x : Bool) (s : Settings) (d : List ℕ) where
       choice (KeptBy x s) (length d is 2 && isCarried2 d)
       (λ e. record { own = refl; files = refl; address = λ n. never (sym t ∙ n); ranged = λ g. address-ranged s g (carried2 d) })
       (λ e. tt)
+
+  -- whichever it is, by its label
+  pub set-keeps : (label : ℕ) → ((label is ADDRESS) ≡ true → x ≡ true) → KeptBy x s (setBy s label d)
+  unfolding setBy
+  set-keeps label t =
+      choice (KeptBy x s) (label is TIME) (λ e. time-keeps) (λ e.
+      choice (KeptBy x s) (label is SPEAKER) (λ e. speaker-keeps) (λ e.
+      choice (KeptBy x s) (label is FORMAT) (λ e. format-keeps) (λ e.
+      choice (KeptBy x s) (label is DATE) (λ e. date-keeps) (λ e.
+      choice (KeptBy x s) (label is ADDRESS) (λ e. address-keeps (t e)) (λ e. tt)))))

@@ -25,16 +25,14 @@ use Rattle.commands.specs.Commands.{findOn, holding}
 use Rattle.commands.specs.Commands.{putMessage, writeFile, getContent, readFile}
 use Rattle.records.specs.Records.{isRecords, recordsIn, labelsIn, needed, refusal, laid}
 use Rattle.special.specs.Configuration.{configure}
-use Rattle.special.specs.Special.{TIME, SPEAKER, FORMAT, DATE, ADDRESS, CONFIGURATION, setsAddress}
-use Rattle.special.specs.Special.{setTime, setSpeaker, setFormat, setDate, setAddress, change}
-use Rattle.special.specs.Special.{writeSpecial, isTold, readSpecial}
+use Rattle.special.specs.Special.{CONFIGURATION, setsAddress, setBy, change, writeSpecial, isTold, readSpecial}
 use Rattle.commands.specs.Blocks.{command, runBlock}
 use Rattle.special.specs.declared.Change.{Change}
-use Rattle.special.specs.declared.Change.the-variants.{To, Malformed}
+use Rattle.special.specs.declared.Change.the-variants.{To, Malformed, Unknown}
 use Rattle.keeping.proofs.Messages.{fileIn, content, put-others, holding-files, holding-length, holding-sound}
 use Rattle.records.proofs.RecordLaws.{laid-length, laid-sound}
 use Rattle.records.proofs.Refusing.{taken}
-use Rattle.keeping.proofs.Changes.{KeptBy, time-keeps, date-keeps, format-keeps, speaker-keeps, address-keeps}
+use Rattle.keeping.proofs.Changes.{KeptBy, set-keeps}
 use Rattle.special.proofs.TellLengths.{told-fits}
 use Rattle.effects.proofs.ReplyLengths.{content-fits}
 
@@ -158,6 +156,7 @@ module _ (b : Board) (c : ℕ) where
   changes : (d : List ℕ) (x : Change) → KeptBy (setsAddress c d) (b .set) x → Effects b c d (change b x)
   unfolding change
   changes d Malformed k = refuses d 22
+  changes d Unknown k = refuses d 21
   changes d (To t) k =
       record {
         own = k .own;
@@ -213,21 +212,14 @@ module _ (b : Board) (c : ℕ) where
   unfolding writeSpecial
   special-effects [] t = refuses [] 22
   special-effects (label ∷ d) t =
-      choice P (label is TIME) (λ e. changes l (setTime s d) (time-keeps x s d)) (λ e.
-      choice P (label is SPEAKER) (λ e. changes l (setSpeaker s d) (speaker-keeps x s d)) (λ e.
-      choice P (label is FORMAT) (λ e. changes l (setFormat s d) (format-keeps x s d)) (λ e.
-      choice P (label is DATE) (λ e. changes l (setDate s d) (date-keeps x s d)) (λ e.
-      choice P (label is ADDRESS) (λ e. changes l (setAddress s d) (address-keeps x s d (rw (t, e)))) (λ e.
-      choice P (label is CONFIGURATION) (λ e. configure-effects label d (rw (t, e))) (λ e. refuses l 21))))))
+      choice P (label is CONFIGURATION) (λ e. configure-effects label d (rw (t, e)))
+      (λ e. changes l (setBy s label d) (set-keeps (setsAddress c l) s d label (λ a. rw (t, a))))
     where
       l : List ℕ
       l = label ∷ d
 
       s : Settings
       s = b .set
-
-      x : Bool
-      x = setsAddress c l
 
       P : Effect → Type 0
       P = Effects b c l

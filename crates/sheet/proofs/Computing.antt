@@ -6,7 +6,7 @@ use Rattle.effects.specs.Reply.{replyOf}
 use Rattle.commands.specs.Commands.{holding, putMessage, writeFile, getContent, readFile}
 use Rattle.records.specs.Records.{isRecords, labelsIn, neededBy, needed, refusal, sizeIn, stored, laid}
 use Rattle.special.specs.Configuration.{configure}
-use Rattle.special.specs.Special.{setTime, setSpeaker, setFormat, setDate, setAddress, change, writeSpecial, tellTime, tellDate, tellSpeaker, tellPool, isTold, tell, readSpecial}
+use Rattle.special.specs.Special.{setTime, setSpeaker, setFormat, setDate, setAddress, setBy, change, writeSpecial, tellTime, tellDate, tellSpeaker, tellPool, isTold, tell, readSpecial}
 use Rattle.commands.specs.Blocks.{command, runBlock}
 use Rattle.sign.specs.Run.{count, measure, onto, runBlocks, runFrame, run}
 use Rattle.sign.specs.Fresh.{fresh}
@@ -23,7 +23,7 @@ unfolding
     replyOf
     holding putMessage writeFile getContent readFile
     isRecords labelsIn neededBy needed refusal sizeIn stored laid configure
-    setTime setSpeaker setFormat setDate setAddress change writeSpecial tellTime tellDate tellSpeaker tellPool isTold tell readSpecial
+    setTime setSpeaker setFormat setDate setAddress setBy change writeSpecial tellTime tellDate tellSpeaker tellPool isTold tell readSpecial
     command runBlock
     count measure onto runBlocks runFrame run
     fresh

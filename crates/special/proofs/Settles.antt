@@ -14,18 +14,18 @@ use Rattle.octets.specs.Decimal.{isDecimal, decimal2}
 use Rattle.octets.specs.Digits.{two}
 use Rattle.octets.specs.declared.hex.Two.{Two}
 use Rattle.octets.specs.declared.hex.Two.the-variants.{Value, Bad}
-use Rattle.octets.proofs.Tests.{by-test, and-none}
+use Rattle.octets.proofs.Tests.{and-none}
 use Rattle.octets.proofs.Told.{two-none, two-some}
 use Rattle.board.specs.Settings.{FORMAT-S, FORMAT-M, OFF, ON, withTime, withDate, withFormat, withSpeaker, withAddress}
 use Rattle.board.specs.declared.Settings.{Settings}
 use Rattle.effects.specs.Effects.{board}
 use Rattle.special.specs.Configuration.{configure}
 use Rattle.special.specs.Special.{TIME, SPEAKER, CONFIGURATION, FORMAT, ADDRESS, DATE}
-use Rattle.special.specs.Special.{setTime, setSpeaker, setFormat, setDate, setAddress, change, writeSpecial}
+use Rattle.special.specs.Special.{setTime, setSpeaker, setFormat, setDate, setAddress, setBy, change, writeSpecial}
 use Rattle.effects.specs.Leaving.{doneAs, Acts}
-use Rattle.special.specs.Changing.{changed, setAs}
+use Rattle.special.specs.Changing.{changed}
 use Rattle.special.specs.declared.Change.{Change}
-use Rattle.special.specs.declared.Change.the-variants.{To, Malformed}
+use Rattle.special.specs.declared.Change.the-variants.{To, Malformed, Unknown}
 use Rattle.effects.specs.declared.Done.{Done}
 use Rattle.effects.proofs.Outcomes.{acts-refused, acts-done}
 
@@ -162,34 +162,37 @@ pub changed-not : (s : Settings) (x : Change) → x ≡ Malformed → (r : Done)
 unfolding changed
 changed-not s x e r g = rw (e, g)
 
-pub ruleset changing = (changed-to, changed-not, needs)
+pub changed-unknown : (s : Settings) (x : Change) → x ≡ Unknown → (r : Done) → r ≡ doneAs 21 s 0 → r ≡ changed s x
+unfolding changed
+changed-unknown s x e r g = rw (e, g)
+
+pub ruleset changing = (changed-to, changed-not, changed-unknown, needs)
 
 module _ (s : Settings) (l : ℕ) (d : List ℕ) where
-  module _ (x : Change) (r : Done) (g : r ≡ changed s x) where
-    pub set-time : l ≡ TIME → x ≡ setTime s d → r ≡ setAs s l d
-    unfolding setAs
-    set-time e h = rw (e, ← h) g
+  module _ (x : Change) where
+    pub set-time : l ≡ TIME → x ≡ setTime s d → x ≡ setBy s l d
+    unfolding setBy
+    set-time e h = rw e h
 
-    pub set-speaker : l ≡ SPEAKER → x ≡ setSpeaker s d → r ≡ setAs s l d
-    unfolding setAs
-    set-speaker e h = rw (e, ← h) g
+    pub set-speaker : l ≡ SPEAKER → x ≡ setSpeaker s d → x ≡ setBy s l d
+    unfolding setBy
+    set-speaker e h = rw e h
 
-    pub set-format : l ≡ FORMAT → x ≡ setFormat s d → r ≡ setAs s l d
-    unfolding setAs
-    set-format e h = rw (e, ← h) g
+    pub set-format : l ≡ FORMAT → x ≡ setFormat s d → x ≡ setBy s l d
+    unfolding setBy
+    set-format e h = rw e h
 
-    pub set-date : l ≡ DATE → x ≡ setDate s d → r ≡ setAs s l d
-    unfolding setAs
-    set-date e h = rw (e, ← h) g
+    pub set-date : l ≡ DATE → x ≡ setDate s d → x ≡ setBy s l d
+    unfolding setBy
+    set-date e h = rw e h
 
-    pub set-address : l ≡ ADDRESS → x ≡ setAddress s d → r ≡ setAs s l d
-    unfolding setAs
-    set-address e h = rw (e, ← h) g
+    pub set-address : l ≡ ADDRESS → x ≡ setAddress s d → x ≡ setBy s l d
+    unfolding setBy
+    set-address e h = rw e h
 
-  pub set-none : (l ≡ TIME → ⊥) → (l ≡ SPEAKER → ⊥) → (l ≡ FORMAT → ⊥) → (l ≡ ADDRESS → ⊥) → (l ≡ DATE → ⊥) →
-      (r : Done) → r ≡ doneAs 21 s 0 → r ≡ setAs s l d
-  unfolding setAs
-  set-none a b c f e r g = rw (ne-eqb l TIME a, ne-eqb l SPEAKER b, ne-eqb l FORMAT c, ne-eqb l DATE e, ne-eqb l ADDRESS f, g)
+  pub set-none : (l ≡ TIME → ⊥) → (l ≡ SPEAKER → ⊥) → (l ≡ FORMAT → ⊥) → (l ≡ ADDRESS → ⊥) → (l ≡ DATE → ⊥) → Unknown ≡ setBy s l d
+  unfolding setBy
+  set-none a b c f e = rw (ne-eqb l TIME a, ne-eqb l SPEAKER b, ne-eqb l FORMAT c, ne-eqb l DATE e, ne-eqb l ADDRESS f)
 
 pub ruleset labelled = (set-time, set-speaker, set-format, set-date, set-address, set-none, needs)
 
@@ -205,16 +208,7 @@ module _ (s : Settings) (m : List ℕ) where
   unfolding change changed
   change-acts (To t) r e = acts-done t m r e
   change-acts Malformed r e = acts-refused 22 s m r e
-
-  set-acts : (l : ℕ) (d : List ℕ) (r : Done) → (l ≡ CONFIGURATION → ⊥) → r ≡ setAs s l d → Acts (writeSpecial (board s m) (l ∷ d)) r m
-  unfolding writeSpecial setAs
-  set-acts l d r n e =
-      by-test (l is TIME) (λ p. rw p (change-acts (setTime s d) r (rw p at e))) (λ a.
-      by-test (l is SPEAKER) (λ p. rw (a, p) (change-acts (setSpeaker s d) r (rw (a, p) at e))) (λ b.
-      by-test (l is FORMAT) (λ p. rw (a, b, p) (change-acts (setFormat s d) r (rw (a, b, p) at e))) (λ c.
-      by-test (l is DATE) (λ p. rw (a, b, c, p) (change-acts (setDate s d) r (rw (a, b, c, p) at e))) (λ f.
-      by-test (l is ADDRESS) (λ p. rw (a, b, c, f, p) (change-acts (setAddress s d) r (rw (a, b, c, f, p) at e))) (λ g.
-      rw (a, b, c, f, g, ne-eqb l CONFIGURATION n) (acts-refused 21 s m r (rw (a, b, c, f, g) at e)))))))
+  change-acts Unknown r e = acts-refused 21 s m r e
 
   pub write-none : (text : List ℕ) (r : Done) → length text ≡ 0 → r ≡ doneAs 22 s 0 → Acts (writeSpecial (board s m) text) r m
   unfolding writeSpecial
@@ -227,9 +221,12 @@ module _ (s : Settings) (m : List ℕ) where
   write-lists [] r a h k e = absurd (h refl)
   write-lists (l ∷ d) r a h k e = rw k (rw (behind-label l d) at e)
 
-  pub write-sets : (text : List ℕ) (r : Done) → (length text ≡ 0 → ⊥) → (text ! 0 ≡ CONFIGURATION → ⊥) →
-      r ≡ setAs s (text ! 0) (take (length text - 1) (drop 1 text)) → Acts (writeSpecial (board s m) text) r m
-  write-sets [] r h k e = absurd (h refl)
-  write-sets (l ∷ d) r h k e = set-acts l d r k (rw (behind-label l d) at e)
+  pub write-sets : (text : List ℕ) (x : Change) (r : Done) → (length text ≡ 0 → ⊥) → (text ! 0 ≡ CONFIGURATION → ⊥) →
+      x ≡ setBy s (text ! 0) (take (length text - 1) (drop 1 text)) → r ≡ changed s x → Acts (writeSpecial (board s m) text) r m
+  unfolding writeSpecial
+  write-sets [] x r h k p e = absurd (h refl)
+  write-sets (l ∷ d) x r h k p e =
+      let q : x ≡ setBy s l d = rw (behind-label l d) at p in
+      rw (ne-eqb l CONFIGURATION k, ← q) (change-acts x r e)
 
 pub ruleset writing = (write-none, write-lists, write-sets, needs)

@@ -15,7 +15,7 @@ use Rattle.effects.specs.Effects.{Board, board, Effect, done, replied, refuse}
 use Rattle.special.specs.Configuration.{configure}
 use Rattle.board.specs.declared.Settings.{Settings}
 use Rattle.special.specs.declared.Change.{Change}
-use Rattle.special.specs.declared.Change.the-variants.{To, Malformed}
+use Rattle.special.specs.declared.Change.the-variants.{To, Malformed, Unknown}
 
 -- label 20H
 abbrev pub TIME : ℕ
@@ -78,22 +78,26 @@ setAddress s d = if length d is 2 && isCarried2 d then To (withAddress s (carrie
 abbrev pub setsAddress : ℕ → List ℕ → Bool
 setsAddress c d = c is E && d ! 0 is ADDRESS
 
--- 22 "data missing, in excess, or malformed"
+-- E, but for "$"
+unfoldable pub setBy : Settings → ℕ → List ℕ → Change
+setBy s label d =
+    if label is TIME then setTime s d
+    else if label is SPEAKER then setSpeaker s d
+    else if label is FORMAT then setFormat s d
+    else if label is DATE then setDate s d
+    else if label is ADDRESS then setAddress s d
+    else Unknown
+
+-- 22 "data missing, in excess, or malformed", 21 "unknown .. function label"
 unfoldable pub change : Board → Change → Effect
 change b (To s) = done (board s (b .memory))
 change b Malformed = refuse 22 b
+change b Unknown = refuse 21 b
 
--- E: "a known command without its label is 22"; 21 "unknown function label"
+-- E: "a known command without its label is 22"
 unfoldable pub writeSpecial : Board → List ℕ → Effect
 writeSpecial b [] = refuse 22 b
-writeSpecial b (label ∷ d) =
-    if label is TIME then change b (setTime (b .set) d)
-    else if label is SPEAKER then change b (setSpeaker (b .set) d)
-    else if label is FORMAT then change b (setFormat (b .set) d)
-    else if label is DATE then change b (setDate (b .set) d)
-    else if label is ADDRESS then change b (setAddress (b .set) d)
-    else if label is CONFIGURATION then configure b d
-    else refuse 21 b
+writeSpecial b (label ∷ d) = if label is CONFIGURATION then configure b d else change b (setBy (b .set) label d)
 
 -- ""00" speaker on, "FF" off"
 unfoldable pub tellSpeaker : Settings → List ℕ

@@ -4,8 +4,9 @@ use board::Settings;
 mod configuration;
 pub mod special;
 
-// What a special function makes of the settings.
+// What a special function makes of the settings: others; none, since its data are malformed; or there is no such function.
 pub enum Change {
     To(Settings),
     Malformed,
+    Unknown,
 }

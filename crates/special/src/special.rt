@@ -39,8 +39,8 @@ ghost use Rattle.board.specs.Settings.{ON, inRange};
 ghost use Rattle.board.specs.Files.{filesOf, heads};
 ghost use Rattle.board.specs.Soundness.{holdsFiles, sound};
 ghost use Rattle.effects.specs.Effects.{board};
-ghost use Rattle.special.specs.Special.{setTime, setSpeaker, setFormat, setDate, setAddress, writeSpecial, tellTime, tellDate, tellSpeaker, tellPool, isTold, tell, readSpecial};
-ghost use Rattle.special.specs.Changing.{changed, setAs};
+ghost use Rattle.special.specs.Special.{setTime, setSpeaker, setFormat, setDate, setAddress, setBy, writeSpecial, tellTime, tellDate, tellSpeaker, tellPool, isTold, tell, readSpecial};
+ghost use Rattle.special.specs.Changing.{changed};
 ghost use Rattle.effects.specs.Leaving.{Told, Acts, Tells, Ready};
 
 // the function labels
@@ -144,20 +144,21 @@ fn change(s: Settings, next: Change) -> Done
     match next {
         Change::To(settings) => quiet(settings, 0),
         Change::Malformed => quiet(s, MALFORMED),
+        Change::Unknown => quiet(s, UNKNOWN),
     }
 }
 
 // E, but for "$": the settings alone change.
-fn set(s: Settings, label: u8, d: &[u8]) -> Done
-    ensures { λ r. ⌜ r ≡ setAs s label (now (d .entry)) ⌝ }
+fn set_by(s: Settings, label: u8, d: &[u8]) -> Change
+    ensures { λ r. ⌜ r ≡ setBy s label (now (d .entry)) ⌝ }
 {
     match label {
-        TIME => change(s, set_time(s, d)),
-        SPEAKER => change(s, set_speaker(s, d)),
-        FORMAT => change(s, set_format(s, d)),
-        DATE => change(s, set_date(s, d)),
-        ADDRESS => change(s, set_address(s, d)),
-        _ => quiet(s, UNKNOWN),
+        TIME => set_time(s, d),
+        SPEAKER => set_speaker(s, d),
+        FORMAT => set_format(s, d),
+        DATE => set_date(s, d),
+        ADDRESS => set_address(s, d),
+        _ => Change::Unknown,
     }
 }
 
@@ -173,7 +174,7 @@ pub fn write_special(s: Settings, m: &mut [u8], text: &[u8]) -> Done
     if label == CONFIGURATION {
         return configure(s, m, &text[1..]);
     }
-    set(s, label, &text[1..])
+    change(s, set_by(s, label, &text[1..]))
 }
 
 // The time, as it is set.

@@ -1,6 +1,6 @@
 -- What the calls put as a whole is the form; its length, its number, and what the output buffer is left with.
-use mathlib.Core.Path.{_≡_, refl, sym, ap, ap₂, _∙_}
-use mathlib.Core.Bool.{Bool, true, false}
+use mathlib.Core.Path.{_≡_, sym, ap, ap₂, _∙_}
+use mathlib.Core.Bool.{true, false}
 use mathlib.Core.List.{List, [], _∷_, _++_, append-nil, append-assoc}
 use Prim.Native.Nat.{ℕ, _+_, _*_, _<_, _≤_}
 use mir.Syntax.{w64}
@@ -12,7 +12,7 @@ use borrow.Author.Tests.{ne-eqb, eqb-true, eqb-false, lt-ltb, le-ltb, ltb-false}
 use lib.Dec.{lit≤}
 use lib.ListN.{length, drop, length-append, length-take, length-drop}
 use lib.Seq.{sets-eq}
-use Rattle.octets.specs.Choice.{if_then_else_, _is_, _<?_}
+use Rattle.octets.specs.Choice.{_is_, _<?_}
 use Rattle.octets.specs.Buffer.{zeros, overlay}
 use Rattle.octets.specs.Bytes.{EOT, TRANSLATED}
 use Rattle.octets.proofs.Tests.{compare, by-test, never}
@@ -21,10 +21,10 @@ use Rattle.body.specs.Steps.{part, isBody, blocksIn, bodyAt, blocksAt}
 use Rattle.body.proofs.Taken.{anything, all-anything, Blocks, BodyOf, blocks-of}
 use Rattle.writing.specs.declared.Written.{Written}
 use Rattle.forms.specs.Forms.{nuls, bodyIn, formOf, render}
-use Rattle.writing.specs.Output.{isOver, output, writtenAs, unwritten, delivered, put}
+use Rattle.writing.specs.Output.{isOver, output, writtenAs, delivered, putNumber, put}
 use Rattle.forms.specs.Pieces.{Puts, encode, piece, pieces, heading, headed}
 use Rattle.writing.specs.Sources.{SPREAD, Source, Ready, Parted, Pair}
-use Rattle.writing.specs.Sources.{standardForm, longest, fitNumber, putNumber}
+use Rattle.writing.specs.Sources.{standardForm, longest, fitNumber}
 use Rattle.forms.proofs.PieceLaws.{pieces-append, render-headed}
 use Rattle.forms.proofs.Puttings.{puts-as, joined, heading-near}
 
@@ -158,27 +158,22 @@ module _ (form : ℕ) (h : List ℕ) (bs : List Block) where
   unfolding fitNumber putNumber isOver
   number-of room e p q s r = e ∙ rw (p, q, s, r, long-same)
 
+  -- what is not refused is within the limits, and has room
+  pub put-fits : (room : ℕ) → putNumber form h bs room ≡ 0 → (isOver form h bs ≡ false) × (length (render form h bs) ≤ room)
+  unfolding putNumber
+  put-fits room e =
+      by-test (isOver form h bs) (λ a. let z : 18 ≡ 0 = rw a at e in absurd (omega arith)) (λ a.
+      by-test (room <? length (render form h bs)) (λ b. let z : 14 ≡ 0 = rw (a, b) at e in absurd (omega arith)) (λ b.
+      (a, ltb-false room (length (render form h bs)) b)))
+
   -- with room for it the form starts the buffer; else the buffer is as it was
   module _ (o : List ℕ) (n : ℕ) (e : n ≡ putNumber form h bs (length o)) where
     pub put-refused : (n ≡ 0 → ⊥) → (r : Written) → r ≡ writtenAs n 0 → output r o ≡ put form h bs o
-    unfolding putNumber put
-    put-refused t r f = ap (λ (x : Written). output x o) f ∙ go (isOver form h bs) (length o <? length (render form h bs)) e
-      where
-        go : (x y : Bool) → n ≡ (if x then 18 else if y then 14 else 0)
-            → output (writtenAs n 0) o ≡ (if x then unwritten 18 o else if y then unwritten 14 o else delivered (render form h bs) o)
-        go true y e = ap (λ (k : ℕ). output (writtenAs k 0) o) e
-        go false true e = ap (λ (k : ℕ). output (writtenAs k 0) o) e
-        go false false e = absurd (t e)
+    unfolding put
+    put-refused t r f = rw (← e, ne-eqb n 0 t, f)
 
     pub put-done : n ≡ 0 → (o₁ : List ℕ) (k : ℕ) → Puts o 0 (render form h bs) o₁ k → output (writtenAs 0 k) o₁ ≡ put form h bs o
-    unfolding putNumber put
-    put-done t o₁ k p =
-        go (isOver form h bs) (length o <? length (render form h bs)) refl (sym t ∙ e)
-      where
-        go : (x y : Bool) → (length o <? length (render form h bs)) ≡ y → _≡_ {A = ℕ} 0 (if x then 18 else if y then 14 else 0)
-            → output (writtenAs 0 k) o₁ ≡ (if x then unwritten 18 o else if y then unwritten 14 o else delivered (render form h bs) o)
-        go true y f e = absurd (omega arith)
-        go false true f e = absurd (omega arith)
-        go false false f e = put-whole o o₁ k (render form h bs) (ltb-false (length o) (length (render form h bs)) f) p
+    unfolding put
+    put-done t o₁ k p = rw (sym e ∙ t) (put-whole o o₁ k (render form h bs) (put-fits (length o) (sym e ∙ t) .1) p)
 
 pub ruleset delivering = (number-of, put-refused, put-done, needs)

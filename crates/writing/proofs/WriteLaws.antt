@@ -16,9 +16,9 @@ use Rattle.header.proofs.Texts.{header-length}
 use Rattle.body.specs.Body.{block}
 use Rattle.writing.specs.declared.Written.{Written}
 use Rattle.forms.specs.Forms.{plainRest, plainBody, summedBody, bodyIn, formOf}
-use Rattle.writing.specs.Output.{isForm, isOver, output, writtenAs, unwritten, put}
+use Rattle.writing.specs.Output.{isForm, isOver, output, writtenAs, unwritten, putNumber, put}
 use Rattle.writing.specs.Writing.{write}
-use Rattle.writing.specs.Sources.{Short, putNumber}
+use Rattle.writing.specs.Sources.{Short}
 use Rattle.writing.proofs.Results.{wholes, delivering}
 
 -- ---- plain bytes

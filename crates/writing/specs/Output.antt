@@ -3,7 +3,7 @@ use Prim.Native.Nat.{ℕ}
 use mathlib.Core.Bool.{Bool, _||_}
 use mathlib.Core.List.{List}
 use lib.ListN.{length}
-use Rattle.octets.specs.Choice.{if_then_else_, _<?_, between}
+use Rattle.octets.specs.Choice.{if_then_else_, _is_, _<?_, between}
 use Rattle.octets.specs.Buffer.{overlay}
 use Rattle.octets.specs.Bytes.{TRANSLATED, BLOCKS}
 use Rattle.body.specs.Body.{Block}
@@ -43,9 +43,12 @@ unwritten n o = answers n 0 o
 abbrev pub delivered : List ℕ → List ℕ → Output
 delivered result o = answers 0 (length result) (overlay o result)
 
--- "18, 14": 14 "output buffer too short"
+-- "18, 14" for blocks under a header in a form, in so much room: 14 "output buffer too short"; 0 where they are put
+unfoldable pub putNumber : ℕ → List ℕ → List Block → ℕ → ℕ
+putNumber form h bs room = if isOver form h bs then 18 else if room <? length (render form h bs) then 14 else 0
+
+-- refused, or the result
 unfoldable pub put : ℕ → List ℕ → List Block → List ℕ → Output
 put form h bs o =
-    if isOver form h bs then unwritten 18 o
-    else if length o <? length (render form h bs) then unwritten 14 o
-    else delivered (render form h bs) o
+    let n : ℕ = putNumber form h bs (length o) in
+    if n is 0 then delivered (render form h bs) o else unwritten n o

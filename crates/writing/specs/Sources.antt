@@ -6,10 +6,7 @@ use mathlib.Core.List.{List}
 use lib.ListN.{length}
 use Rattle.octets.specs.Choice.{if_then_else_, _is_, _<?_}
 use Rattle.octets.specs.Bytes.{TRANSLATED, BLOCKS}
-use Rattle.body.specs.Body.{Block}
 use Rattle.body.specs.Steps.{bodyAt}
-use Rattle.forms.specs.Forms.{render}
-use Rattle.writing.specs.Output.{isOver}
 
 -- a block takes no more room: three bytes for each of its data, 8,192 at most, and for each of the eight about them
 abbrev pub SPAN : ℕ
@@ -56,7 +53,3 @@ longest form = if form is 3 then TRANSLATED + 5 else TRANSLATED
 -- 18, 14 or 0, by the number of blocks, the length of the standard form, the result's and the buffer's
 unfoldable pub fitNumber : ℕ → ℕ → ℕ → ℕ → ℕ → ℕ
 fitNumber form count full raw room = if BLOCKS <? count || longest form <? full then 18 else if room <? raw then 14 else 0
-
--- 18, 14 or 0 for blocks under a header in a form
-unfoldable pub putNumber : ℕ → List ℕ → List Block → ℕ → ℕ
-putNumber form h bs room = if isOver form h bs then 18 else if room <? length (render form h bs) then 14 else 0

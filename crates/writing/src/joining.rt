@@ -26,11 +26,11 @@ ghost use Rattle.octets.specs.Choice.{same};
 ghost use Rattle.body.specs.Steps.{part, blocksAt};
 ghost use Rattle.reading.specs.Reading.{frame, read};
 ghost use Rattle.forms.specs.Forms.{render};
-ghost use Rattle.writing.specs.Output.{output, put};
+ghost use Rattle.writing.specs.Output.{output, putNumber, put};
 ghost use Rattle.writing.specs.Reforming.{checked};
 ghost use Rattle.writing.specs.Joining.{putJoined, join};
 ghost use Rattle.forms.specs.Pieces.{Puts, encode, headed};
-ghost use Rattle.writing.specs.Sources.{SPREAD, Parted, Pair, putNumber};
+ghost use Rattle.writing.specs.Sources.{SPREAD, Parted, Pair};
 
 // The first frame's header, its blocks and then the second's, in a form.
 fn put_both(

@@ -17,10 +17,10 @@ ghost use lib.ListN.{length};
 ghost use Rattle.body.specs.Steps.{part, blocksAt};
 ghost use Rattle.reading.specs.Reading.{frame};
 ghost use Rattle.forms.specs.Forms.{render};
-ghost use Rattle.writing.specs.Output.{output, put};
+ghost use Rattle.writing.specs.Output.{output, putNumber, put};
 ghost use Rattle.writing.specs.Reforming.{checked, putRead, reform};
 ghost use Rattle.forms.specs.Pieces.{Puts};
-ghost use Rattle.writing.specs.Sources.{Parted, putNumber};
+ghost use Rattle.writing.specs.Sources.{Parted};
 
 // The frame whose header and body start at two places of its bytes, in a form.
 fn put_reformed(out: &mut [u8], form: u8, s: &[u8], header: usize, from: usize) -> usize

@@ -24,10 +24,10 @@ ghost use Rattle.octets.specs.Choice.{all};
 ghost use Rattle.octets.specs.Bytes.{TRANSLATED, isPlain};
 ghost use Rattle.body.specs.Body.{block};
 ghost use Rattle.forms.specs.Forms.{render};
-ghost use Rattle.writing.specs.Output.{output, put};
+ghost use Rattle.writing.specs.Output.{output, putNumber, put};
 ghost use Rattle.writing.specs.Writing.{write};
 ghost use Rattle.forms.specs.Pieces.{Puts};
-ghost use Rattle.writing.specs.Sources.{Short, putNumber};
+ghost use Rattle.writing.specs.Sources.{Short};
 
 // "command or data byte below 05H": no byte of the data is.
 fn all_plain(text: &[u8]) -> bool

@@ -29,17 +29,20 @@ same-length c = search writing
 returns-2 : tie.Need-returns-2
 returns-2 c = search writing
 
-sub-set : tie.Need-sub-set
-sub-set c = search writing
+sub-set-by : tie.Need-sub-set-by
+sub-set-by c = search writing
 
-part-set-start : tie.Need-part-set-start
-part-set-start c = search writing
+part-set-by-start : tie.Need-part-set-by-start
+part-set-by-start c = search writing
 
-part-set-end : tie.Need-part-set-end
-part-set-end c = search writing
+part-set-by-end : tie.Need-part-set-by-end
+part-set-by-end c = search writing
 
-set-requires : tie.Need-set-requires
-set-requires c κs = search writing
+set-by-requires : tie.Need-set-by-requires
+set-by-requires c κs = search writing
+
+change-requires : tie.Need-change-requires
+change-requires c κs = search writing
 
 returns-3 : tie.Need-returns-3
 returns-3 c = search writing
@@ -57,8 +60,9 @@ write-special-spec =
     configure-requires
     same-length
     returns-2
-    sub-set
-    part-set-start
-    part-set-end
-    set-requires
+    sub-set-by
+    part-set-by-start
+    part-set-by-end
+    set-by-requires
+    change-requires
     returns-3)
