@@ -1,2 +1,3 @@
--- What the functions go by, case by case.
+-- What the functions go by, case by case; and that a reading has one outcome.
 pub mod Telling
+pub mod Unique

@@ -1,17 +1,19 @@
 -- What C is told of a frame and of a block, case by case.
 use Prim.Native.Nat.{ℕ}
-use mathlib.Core.Path.{_≡_}
+use mathlib.Core.Path.{_≡_, refl, sym, ap, _∙_}
 use mathlib.Core.Bool.{Bool}
 use mathlib.Core.List.{List}
 use lib.ListN.{length}
 use borrow.Author.Needs.{needs}
+use Rattle.body.specs.Readers.{placeBehind}
 use Rattle.body.specs.declared.BlockStep.{BlockStep}
 use Rattle.body.specs.declared.BlockStep.the-variants.{Stray, More, Last}
-use Rattle.reading.specs.Places.{readPlaces, roomAfter, Reads}
+use Rattle.reading.specs.Places.{Reads}
 use Rattle.reading.specs.declared.Read.{Read}
-use Rattle.reading.specs.declared.Read.the-variants.{Refused, Standard, Printable}
 use Rattle.port.specs.Truth.{truth}
-use Rattle.port.specs.Blocks.{places, placesAs, block, blockAs}
+use Rattle.port.specs.declared.Places.{Places}
+use Rattle.port.specs.declared.Block.{Block}
+use Rattle.port.specs.Blocks.{placesAs, ReadsAs, block, blockAs}
 
 -- ---- yes or no
 pub told-truth : (x y : Bool) (v : ℕ) → x ≡ y → v ≡ truth x → v ≡ truth y
@@ -20,36 +22,31 @@ told-truth x y v e p = rw (← e) p
 pub ruleset saying = (told-truth, needs)
 
 -- ---- a step
-module _ (s : List ℕ) (x y : BlockStep) (e : x ≡ y) where
-  pub told-none : x ≡ Stray → block 0 0 0 0 0 (length s) ≡ blockAs s y
-  unfolding blockAs
-  told-none p = rw (← e, p)
 
-  pub told-more : (c i j n v : ℕ) (r : Bool) → x ≡ More c i j r n → v ≡ truth r → block 1 c v i j n ≡ blockAs s y
-  unfolding blockAs
-  told-more c i j n v r p q = rw (← e, p, q)
+-- y is what stands at the place, b the case of it that was found
+pub told-block : (s : List ℕ) (x y b : BlockStep) (v : Block) → x ≡ y → x ≡ b → v ≡ blockAs s b → v ≡ blockAs s y
+told-block s x y b v e p q = q ∙ ap (blockAs s) (sym p ∙ e)
 
-  pub told-last : (c i j v : ℕ) (r : Bool) → x ≡ Last c i j r → v ≡ truth r → block 2 c v i j (length s) ≡ blockAs s y
-  unfolding blockAs
-  told-last c i j v r p q = rw (← e, p, q)
+-- whether the sum is right, as a number
+pub told-right : (k c i j n v w : ℕ) → v ≡ w → block k c v i j n ≡ block k c w i j n
+told-right k c i j n v w e = rw e
 
-pub ruleset stepping = (told-none, told-more, told-last, needs)
+pub ruleset stepping = (told-block, told-right, needs)
 
 -- ---- a reading
+
+-- y is the case of it that was answered
 module _ (s room after : List ℕ) (x : Read) (e : Reads s room x after) where
-  pub told-refused : (n : ℕ) → x ≡ Refused n → places n 0 0 0 0 ≡ placesAs s (readPlaces s)
-  unfolding placesAs
-  told-refused n p = rw (← (e .places), p)
+  pub told-places : (y : Read) (r : Places) → x ≡ y → r ≡ placesAs s y → ReadsAs s room r after
+  told-places y r p q = record { places = q ∙ ap (placesAs s) (sym p ∙ e .places); left = e .left }
 
-  pub told-standard : (h b : ℕ) → x ≡ Standard h b → places 0 0 (length s) h b ≡ placesAs s (readPlaces s)
-  unfolding placesAs
-  told-standard h b p = rw (← (e .places), p)
+pub ruleset reading = (told-places, needs)
 
-  pub told-printable : (n h b : ℕ) → x ≡ Printable n h b → places 0 1 n h b ≡ placesAs s (readPlaces s)
-  unfolding placesAs
-  told-printable n h b p = rw (← (e .places), p)
+-- ---- where the reader is left
 
-  pub told-room : after ≡ roomAfter s room
-  told-room = e .left
-
-pub ruleset reading = (told-refused, told-standard, told-printable, told-room, needs)
+-- the place that C is told to go on at is the one at which a reader is left
+pub next-left : (s : List ℕ) (b : BlockStep) → blockAs s b .next ≡ placeBehind b (length s)
+unfolding blockAs placeBehind
+next-left s Stray = refl
+next-left s (More c i j r n) = refl
+next-left s (Last c i j r) = refl

@@ -1,9 +1,11 @@
 -- A frame and its blocks as C is told of them: the answers of `read` and of a step in plain numbers.
 use Prim.Native.Nat.{ℕ}
+use mathlib.Core.Path.{_≡_}
 use mathlib.Core.List.{List}
 use lib.ListN.{length}
 use Rattle.body.specs.declared.BlockStep.{BlockStep}
 use Rattle.body.specs.declared.BlockStep.the-variants.{Stray, More, Last}
+use Rattle.reading.specs.Places.{readPlaces, roomAfter}
 use Rattle.reading.specs.declared.Read.{Read}
 use Rattle.reading.specs.declared.Read.the-variants.{Refused, Standard, Printable}
 use Rattle.port.specs.Truth.{truth}
@@ -19,6 +21,11 @@ unfoldable pub placesAs : List ℕ → Read → Places
 placesAs s (Refused n) = places n 0 0 0 0
 placesAs s (Standard h b) = places 0 0 (length s) h b
 placesAs s (Printable n h b) = places 0 1 n h b
+
+-- what `pagozkin_read` of a frame with a room promises: its answer, and the room after it
+pub record ReadsAs (s room : List ℕ) (answer : Places) (after : List ℕ) : Type 0 where
+  pub places : answer ≡ placesAs s (readPlaces s)
+  pub left : after ≡ roomAfter s room
 
 -- which kind of step, its block's command byte, whether its sum is right, where its data start and end, and the place behind
 abbrev pub block : ℕ → ℕ → ℕ → ℕ → ℕ → ℕ → Block

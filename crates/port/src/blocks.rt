@@ -8,8 +8,7 @@ use frame::read;
 use frame::step_from;
 ghost use mathlib.Core.Path.{_≡_};
 ghost use Rattle.body.specs.Steps.{foundAt};
-ghost use Rattle.reading.specs.Places.{readPlaces, roomAfter};
-ghost use Rattle.port.specs.Blocks.{placesAs, blockAs};
+ghost use Rattle.port.specs.Blocks.{ReadsAs, blockAs};
 
 const NO_BLOCK: u8 = 0;
 
@@ -20,8 +19,7 @@ const LAST: u8 = 2;
 // Reads a frame: 0, or 3 to 8. The bytes that a printable frame stands for come to the start of the room.
 #[no_mangle]
 pub extern "C" fn pagozkin_read(frame: &[u8], room: &mut [u8; 8192]) -> Places
-    ensures { λ r. ⌜ r ≡ placesAs (now (frame .entry)) (readPlaces (now (frame .entry))) ⌝ }
-    ensures { λ r. ⌜ now (room .exit) ≡ roomAfter (now (frame .entry)) (now (room .entry)) ⌝ }
+    ensures { λ r. ⌜ ReadsAs (now (frame .entry)) (now (room .entry)) r (now (room .exit)) ⌝ }
 {
     match read(frame, room) {
         Read::Refused(number) => Places {

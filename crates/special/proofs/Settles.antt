@@ -154,47 +154,22 @@ pub ruleset addressing = (address-length, address-letters, address-right, needs)
 
 -- ---- one of them, by its label
 
-pub changed-to : (s : Settings) (x : Change) (t : Settings) → x ≡ To t → (r : Done) → r ≡ doneAs 0 t 0 → r ≡ changed s x
-unfolding changed
-changed-to s x t e r g = rw (e, g)
+-- the answer to what was made of the settings
+pub changed-as : (s : Settings) (x y : Change) (r : Done) → x ≡ y → r ≡ changed s y → r ≡ changed s x
+changed-as s x y r e g = rw e g
 
-pub changed-not : (s : Settings) (x : Change) → x ≡ Malformed → (r : Done) → r ≡ doneAs 22 s 0 → r ≡ changed s x
-unfolding changed
-changed-not s x e r g = rw (e, g)
-
-pub changed-unknown : (s : Settings) (x : Change) → x ≡ Unknown → (r : Done) → r ≡ doneAs 21 s 0 → r ≡ changed s x
-unfolding changed
-changed-unknown s x e r g = rw (e, g)
-
-pub ruleset changing = (changed-to, changed-not, changed-unknown, needs)
+pub ruleset changing = (changed-as, needs)
 
 module _ (s : Settings) (l : ℕ) (d : List ℕ) where
-  module _ (x : Change) where
-    pub set-time : l ≡ TIME → x ≡ setTime s d → x ≡ setBy s l d
-    unfolding setBy
-    set-time e h = rw e h
-
-    pub set-speaker : l ≡ SPEAKER → x ≡ setSpeaker s d → x ≡ setBy s l d
-    unfolding setBy
-    set-speaker e h = rw e h
-
-    pub set-format : l ≡ FORMAT → x ≡ setFormat s d → x ≡ setBy s l d
-    unfolding setBy
-    set-format e h = rw e h
-
-    pub set-date : l ≡ DATE → x ≡ setDate s d → x ≡ setBy s l d
-    unfolding setBy
-    set-date e h = rw e h
-
-    pub set-address : l ≡ ADDRESS → x ≡ setAddress s d → x ≡ setBy s l d
-    unfolding setBy
-    set-address e h = rw e h
+  -- k is one of the labels
+  pub set-labelled : (k : ℕ) (x : Change) → l ≡ k → x ≡ setBy s k d → x ≡ setBy s l d
+  set-labelled k x e h = rw e h
 
   pub set-none : (l ≡ TIME → ⊥) → (l ≡ SPEAKER → ⊥) → (l ≡ FORMAT → ⊥) → (l ≡ ADDRESS → ⊥) → (l ≡ DATE → ⊥) → Unknown ≡ setBy s l d
   unfolding setBy
   set-none a b c f e = rw (ne-eqb l TIME a, ne-eqb l SPEAKER b, ne-eqb l FORMAT c, ne-eqb l DATE e, ne-eqb l ADDRESS f)
 
-pub ruleset labelled = (set-time, set-speaker, set-format, set-date, set-address, set-none, needs)
+pub ruleset labelled = (set-labelled, set-none, needs)
 
 -- ---- E
 

@@ -1,3 +1,4 @@
+use Rattle.port.specs.Blocks.{placesAs}
 use Rattle.port.proofs.Telling.{reading}
 use Rattle.port.proofs.blocks.pagozkin_read.Statement.{statement}
 use Rattle.port.proofs.blocks.pagozkin_read.Tie as tie
@@ -15,12 +16,15 @@ enum-known-length : tie.Need-enum-known-length
 enum-known-length c = search reading
 
 returns : tie.Need-returns
+unfolding placesAs
 returns c = search reading
 
 returns-2 : tie.Need-returns-2
+unfolding placesAs
 returns-2 c = search reading
 
 returns-3 : tie.Need-returns-3
+unfolding placesAs
 returns-3 c = search reading
 
 pub pagozkin-read-spec : {M : Type 1} → statement M

@@ -1,3 +1,4 @@
+use Rattle.port.specs.Blocks.{blockAs}
 use Rattle.port.proofs.Telling.{stepping}
 use Rattle.port.proofs.blocks.pagozkin_step.Statement.{statement}
 use Rattle.port.proofs.blocks.pagozkin_step.Tie as tie
@@ -21,12 +22,15 @@ truth-requires-2 : tie.Need-truth-requires-2
 truth-requires-2 c κs = search stepping
 
 returns : tie.Need-returns
+unfolding blockAs
 returns c = search stepping
 
 returns-2 : tie.Need-returns-2
+unfolding blockAs
 returns-2 c = search stepping
 
 returns-3 : tie.Need-returns-3
+unfolding blockAs
 returns-3 c = search stepping
 
 pub pagozkin-step-spec : {M : Type 1} → statement M

@@ -1,3 +1,4 @@
+use Rattle.special.specs.Changing.{changed}
 use Rattle.special.proofs.Settles.{changing}
 use Rattle.special.proofs.special.change.Statement.{statement}
 use Rattle.special.proofs.special.change.Tie as tie
@@ -21,12 +22,15 @@ quiet-requires-3 : tie.Need-quiet-requires-3
 quiet-requires-3 c κs = search changing
 
 returns : tie.Need-returns
+unfolding changed
 returns c = search changing
 
 returns-2 : tie.Need-returns-2
+unfolding changed
 returns-2 c = search changing
 
 returns-3 : tie.Need-returns-3
+unfolding changed
 returns-3 c = search changing
 
 pub change-spec : {M : Type 1} → statement M

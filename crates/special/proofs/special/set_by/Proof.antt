@@ -1,3 +1,4 @@
+use Rattle.special.specs.Special.{setBy}
 use Rattle.special.proofs.Settles.{labelled}
 use Rattle.special.proofs.special.set_by.Statement.{statement}
 use Rattle.special.proofs.special.set_by.Tie as tie
@@ -18,18 +19,23 @@ set-address-requires : tie.Need-set-address-requires
 set-address-requires c κs = search labelled
 
 returns : tie.Need-returns
+unfolding setBy
 returns c = search labelled
 
 returns-2 : tie.Need-returns-2
+unfolding setBy
 returns-2 c = search labelled
 
 returns-3 : tie.Need-returns-3
+unfolding setBy
 returns-3 c = search labelled
 
 returns-4 : tie.Need-returns-4
+unfolding setBy
 returns-4 c = search labelled
 
 returns-5 : tie.Need-returns-5
+unfolding setBy
 returns-5 c = search labelled
 
 returns-6 : tie.Need-returns-6
