@@ -7,7 +7,7 @@ use std::process::ExitCode;
 
 use second::cases::write_cases;
 use second::stored::write_stored;
-use second::stream::{replay, CALLS};
+use second::stream::{replay, Ended, CALLS};
 use second::twelve::write_twelve;
 
 const USAGE: &str = "\
@@ -55,10 +55,22 @@ fn tell(text: &str, code: u8) -> ExitCode {
 fn perform(task: Task) -> io::Result<()> {
     let mut output = BufWriter::new(io::stdout().lock());
     match task {
-        Task::Replay => replay(&mut BufReader::new(io::stdin().lock()), &mut output),
+        Task::Replay => replay_whole(&mut output),
         Task::Cases { seed, count, calls } => write_cases(&mut output, seed, count, &calls),
         Task::Stored { calls } => write_stored(&mut output, &calls),
         Task::Twelve => write_twelve(&mut output),
+    }
+}
+
+/// Replays standard input. A case that cannot be read is an error of the
+/// program too, so that a stream cut short is not taken for a whole one.
+fn replay_whole(output: &mut impl Write) -> io::Result<()> {
+    match replay(&mut BufReader::new(io::stdin().lock()), output)? {
+        Ended::Whole => Ok(()),
+        Ended::BadCase => Err(io::Error::new(
+            io::ErrorKind::InvalidData,
+            "the stream ends at a case that cannot be read",
+        )),
     }
 }
 

@@ -104,6 +104,18 @@ impl Case {
         }
     }
 
+    /// The same call with this output buffer; a call on a board has none and
+    /// stays as it is.
+    pub fn with_output(mut self, buffer: Vec<u8>) -> Case {
+        match &mut self {
+            Case::Write { output, .. }
+            | Case::Reform { output, .. }
+            | Case::Join { output, .. } => *output = buffer,
+            Case::Fresh { .. } | Case::Run { .. } => {}
+        }
+        self
+    }
+
     /// Makes the call.
     pub fn answer(self) -> Answer {
         match self {
@@ -371,18 +383,28 @@ impl Line {
     }
 }
 
+/// How a stream came to its end.
+#[derive(Clone, Copy, Debug, PartialEq, Eq)]
+pub enum Ended {
+    /// After its last case.
+    Whole,
+    /// At a case that cannot be read.
+    BadCase,
+}
+
 /// Reads cases to the end of the input and writes their lines. A case that
 /// cannot be read "writes the line `bad case` and ends the program".
-pub fn replay(input: &mut impl BufRead, output: &mut impl Write) -> io::Result<()> {
-    loop {
+pub fn replay(input: &mut impl BufRead, output: &mut impl Write) -> io::Result<Ended> {
+    let ended = loop {
         match next_case(input)? {
             Next::Case(case) => output.write_all(&line(&case.answer()))?,
             Next::Bad => {
                 output.write_all(BAD_CASE)?;
-                break;
+                break Ended::BadCase;
             }
-            Next::End => break,
+            Next::End => break Ended::Whole,
         }
-    }
-    output.flush()
+    };
+    output.flush()?;
+    Ok(ended)
 }

@@ -1,14 +1,15 @@
 //! Blocks for the frames: commands that do things on a board, and commands
 //! that are refused for each of the reasons 20 to 27.
 
-use super::boards::{self, message, new_label};
+use super::boards::{self, make_text, message, new_label, size_of};
 use super::dice::Dice;
 use crate::bytes::{
     CONFIGURATION, DATE, LOWEST_DATA, POOL, READ_SPECIAL, READ_STRING, READ_TEXT, SERIAL_ADDRESS,
     SPEAKER, TIME, TIME_FORMAT, WRITE_SPECIAL, WRITE_STRING, WRITE_TEXT,
 };
+use crate::files::MOST_FILES;
 use crate::hex::byte_digits;
-use crate::record::{Kind, Record};
+use crate::record::{Kind, Record, RECORD_LENGTH};
 use crate::sum::checksum;
 
 /// How a block ends.
@@ -52,33 +53,70 @@ impl Plan {
     }
 }
 
+/// The longest message for a large file, so that frames of many blocks mostly
+/// stay below 8,192 bytes.
+const LONG_MESSAGE: usize = 2_000;
+
 /// What is known of a board while blocks are planned for it.
 pub struct Sight {
     pub records: Vec<Record>,
     pub memory_length: usize,
 }
 
+impl Sight {
+    /// Whether the board has many files, so that frames had better go through
+    /// them and look at them.
+    pub fn is_crowded(&self) -> bool {
+        self.records.len() >= boards::CROWD
+    }
+}
+
 /// Blocks for a board: most of them do something, some are refused.
 pub fn for_board(dice: &mut Dice, sight: &mut Sight, count: usize) -> Vec<Plan> {
     let share = dice.one_of([0, 5, 15, 15, 40]);
-    let sums = dice.one_of([0, 0, 50, 100]);
     let mut plans = Vec::new();
     for place in 1..=count {
         let is_last = place == count;
-        let mut plan = if dice.chance(share) {
+        let plan = if dice.chance(share) {
             refused(dice, sight, is_last)
         } else {
             done(dice, sight, is_last, place == 1)
         };
+        plans.push(plan);
+    }
+    give_ends(dice, &mut plans);
+    plans
+}
+
+/// A message to each file in memory's order: on a full board 64 blocks, each
+/// of which changes another file. Now and then a read takes the last place.
+pub fn for_each_file(dice: &mut Dice, sight: &Sight) -> Vec<Plan> {
+    let mut plans: Vec<Plan> = sight
+        .records
+        .iter()
+        .map(|record| fitting(dice, record))
+        .collect();
+    if let Some(last) = plans.last_mut().filter(|_| dice.chance(40)) {
+        *last = read(dice, sight);
+    }
+    give_ends(dice, &mut plans);
+    plans
+}
+
+/// Gives blocks that end with ETX alone their checksums, or some of them, and
+/// lets the last end at EOT.
+fn give_ends(dice: &mut Dice, plans: &mut [Plan]) {
+    let sums = dice.one_of([0, 0, 50, 100]);
+    for plan in plans.iter_mut() {
         if plan.end == End::Bare && dice.chance(sums) {
             plan.add_sum();
         }
-        if plan.end == End::Bare && is_last && dice.chance(70) {
-            plan.end = End::Open;
-        }
-        plans.push(plan);
     }
-    plans
+    if let Some(last) = plans.last_mut() {
+        if last.end == End::Bare && dice.chance(70) {
+            last.end = End::Open;
+        }
+    }
 }
 
 /// A block that the board does.
@@ -86,7 +124,7 @@ fn done(dice: &mut Dice, sight: &mut Sight, is_last: bool, is_first: bool) -> Pl
     if is_first && dice.chance(30) {
         return configuration(dice, sight);
     }
-    if is_last && dice.chance(50) {
+    if is_last && dice.chance(if sight.is_crowded() { 90 } else { 60 }) {
         return read(dice, sight);
     }
     match dice.below(20) {
@@ -123,10 +161,17 @@ fn write(dice: &mut Dice, sight: &Sight) -> Plan {
     let Some(record) = any_record(dice, sight) else {
         return special(TIME, &decimal(dice, &[(0, 23), (0, 59)]));
     };
+    fitting(dice, &record)
+}
+
+/// A message that fits into the file: empty, short or, in a small file, full;
+/// now and then one of hundreds of bytes.
+fn fitting(dice: &mut Dice, record: &Record) -> Plan {
     let size = record.content_length();
     let some = dice.below(size.min(40) + 1);
     let length = match size {
         0..=200 => dice.one_of([0, some, some, some, size]),
+        _ if dice.chance(5) => dice.below(size.min(LONG_MESSAGE) + 1),
         _ => some,
     };
     to_file(dice, record.kind, record.label, length)
@@ -159,9 +204,9 @@ fn any_record(dice: &mut Dice, sight: &Sight) -> Option<Record> {
 /// A read of a file that exists or of a function.
 fn read(dice: &mut Dice, sight: &Sight) -> Plan {
     match any_record(dice, sight) {
-        Some(record) if dice.chance(60) => Plan::new(read_code(record.kind), vec![record.label]),
+        Some(record) if dice.chance(40) => Plan::new(read_code(record.kind), vec![record.label]),
         _ => {
-            let label = dice.one_of([TIME, SPEAKER, TIME_FORMAT, DATE, CONFIGURATION, POOL, POOL]);
+            let label = dice.one_of([TIME, SPEAKER, TIME_FORMAT, DATE, CONFIGURATION, POOL]);
             Plan::new(READ_SPECIAL, vec![label])
         }
     }
@@ -169,22 +214,32 @@ fn read(dice: &mut Dice, sight: &Sight) -> Plan {
 
 /// A "$" list that the board takes; what is known of the board follows it.
 fn configuration(dice: &mut Dice, sight: &mut Sight) -> Plan {
-    let mut records = boards::records(dice, sight.memory_length);
-    let used: usize = records.iter().map(|record| record.whole_length()).sum();
+    let mut records = next_records(dice, sight);
+    let left = sight.memory_length - boards::used(&records);
     let takes_rest = dice.chance(25);
     let mut list = list_of(&records);
     if let Some(last) = records.last_mut() {
         if takes_rest && last.kind == Kind::Text {
-            let rest = sight.memory_length - used + last.content_length();
+            let rest = left + last.content_length();
             last.size = 0;
             list = list_of(&records);
             if let Some(last) = records.last_mut() {
-                last.size = u16::try_from(rest).unwrap_or(u16::MAX);
+                last.size = size_of(rest);
             }
         }
     }
     sight.records = records;
     special(CONFIGURATION, &list)
+}
+
+/// The records that a list puts in place of the board's: a crowded board often
+/// stays crowded, so that the blocks that follow still meet many files.
+fn next_records(dice: &mut Dice, sight: &Sight) -> Vec<Record> {
+    if sight.is_crowded() && dice.chance(80) {
+        let count = boards::crowd(dice);
+        return boards::many_records(dice, sight.memory_length, count);
+    }
+    boards::records(dice, sight.memory_length)
 }
 
 fn list_of(records: &[Record]) -> Vec<u8> {
@@ -339,7 +394,7 @@ fn too_long(dice: &mut Dice, sight: &Sight, is_last: bool) -> Plan {
 /// 25: a list with one thing wrong in it.
 fn bad_list(dice: &mut Dice, sight: &Sight) -> Plan {
     let mut list = list_of(&small_records(dice, sight));
-    match dice.below(16) {
+    match dice.below(20) {
         0 => list.truncate(list.len().saturating_sub(1)),
         1 => list.push(b'0'),
         2 => list.extend(b"XBL00000000"),
@@ -354,7 +409,8 @@ fn bad_list(dice: &mut Dice, sight: &Sight) -> Plan {
         11 => list.extend(b"0AU0001FF00"),
         12 => list.extend(b"?AU0001FF00"),
         13 => list.extend(b"XAX0001FF00"),
-        14 if dice.chance(30) => list = b"AAU0001FF00".repeat(65),
+        14 => list = b"AAU0001FF00".repeat(MOST_FILES + 1),
+        15..=18 => list = list_of(&crowd_of_records(dice, sight, MOST_FILES + 1)),
         _ => {
             list.extend(b"XAU0001FF00");
             let last = list.len() - dice.between(1, 11);
@@ -366,7 +422,10 @@ fn bad_list(dice: &mut Dice, sight: &Sight) -> Plan {
 
 /// 26: the first label again, of the same type or of the other.
 fn label_twice(dice: &mut Dice, sight: &Sight) -> Plan {
-    let mut records = small_records(dice, sight);
+    let mut records = match dice.below(4) {
+        0 => crowd_of_records(dice, sight, MOST_FILES - 1),
+        _ => small_records(dice, sight),
+    };
     let mut again = records[0];
     if dice.chance(50) {
         again.kind = Kind::String;
@@ -380,24 +439,40 @@ fn label_twice(dice: &mut Dice, sight: &Sight) -> Plan {
 
 /// 27: a size that is just too large, or a last TEXT with nothing left.
 fn no_room(dice: &mut Dice, sight: &Sight) -> Plan {
+    if dice.chance(25) {
+        return no_room_for_many(dice, sight);
+    }
     let mut record = small_records(dice, sight)[0];
-    record.kind = Kind::Text;
-    record.start = start_for_text(dice);
-    let room = sight.memory_length - 11;
-    if dice.chance(30) && room > 11 {
+    make_text(dice, &mut record);
+    let room = sight.memory_length - RECORD_LENGTH;
+    if dice.chance(30) && room > RECORD_LENGTH {
         let mut rest = record;
-        record.size = u16::try_from(room - 11).unwrap_or(1);
+        record.size = size_of(room - RECORD_LENGTH);
         rest.label = new_label(dice, &[record]);
         rest.size = 0;
         return special(CONFIGURATION, &list_of(&[record, rest]));
     }
     let more = dice.one_of([1, 1, 100, 0x7000]);
-    record.size = u16::try_from(room + more).unwrap_or(u16::MAX);
+    record.size = size_of(room + more);
     special(CONFIGURATION, &list_of(&[record]))
 }
 
-fn start_for_text(dice: &mut Dice) -> u8 {
-    dice.one_of([0x00, 0x8F, 0xFD, 0xFE, 0xFF])
+/// 27: a list of 64 records, the last of which is one byte too large where the
+/// others leave room for it.
+fn no_room_for_many(dice: &mut Dice, sight: &Sight) -> Plan {
+    let mut records = crowd_of_records(dice, sight, MOST_FILES);
+    let left = sight.memory_length.checked_sub(boards::used(&records));
+    if let (Some(left), Some(last)) = (left, records.last_mut()) {
+        make_text(dice, last);
+        last.size = size_of(last.content_length() + left + 1);
+    }
+    special(CONFIGURATION, &list_of(&records))
+}
+
+/// So many records, whether or not memory has room for them.
+fn crowd_of_records(dice: &mut Dice, sight: &Sight, count: usize) -> Vec<Record> {
+    let room = sight.memory_length.max(count * boards::SMALLEST_FILE);
+    boards::many_records(dice, room, count)
 }
 
 /// One to three records that fit; at least one.

@@ -1,8 +1,9 @@
-//! Boards for the runs: sound ones, and sound ones damaged in one place.
+//! Boards for the runs: sound ones from end to end of what document 01 allows,
+//! and sound ones damaged in one place.
 
 use super::dice::Dice;
-use crate::configuration::configure;
-use crate::files::{store, walk, File};
+use crate::bytes::NUL;
+use crate::files::{walk, File, MOST_FILES};
 use crate::header::is_own_type;
 use crate::record::{Kind, Record, LAST_TIME_CODE, LONGEST_STRING, RECORD_LENGTH};
 use crate::settings::{Settings, FIELDS, MILITARY_FORMAT, STANDARD_FORMAT};
@@ -16,24 +17,77 @@ pub struct Board {
     pub records: Vec<Record>,
 }
 
-/// A sound board.
+/// From so many files on a board counts as crowded.
+pub const CROWD: usize = 40;
+/// A record and the one byte of content that a file has at least.
+pub const SMALLEST_FILE: usize = RECORD_LENGTH + 1;
+
+/// A sound board: most times a few files in a small memory.
 pub fn sound(dice: &mut Dice) -> Board {
-    let length = memory_length(dice);
-    let records = records(dice, length);
-    let mut memory = vec![0; length];
-    let list: Vec<u8> = records.iter().flat_map(|r| r.to_bytes()).collect();
-    let files = configure(&list, &mut memory).unwrap_or(0);
-    let (places, _) = walk(&memory, files).unwrap_or_default();
-    for file in &places {
-        let length = content_length(dice, file.record.content_length());
-        let message = message(dice, length);
-        store(&mut memory, file, &message);
-    }
+    let (length, records) = match dice.below(100) {
+        0..=19 => crowded(dice),
+        20 | 21 => (dice.one_of([LEAST_MEMORY, MOST_MEMORY]), Vec::new()),
+        _ => {
+            let length = memory_length(dice);
+            (length, records(dice, length))
+        }
+    };
     Board {
-        settings: settings(dice, files),
-        memory,
+        settings: settings(dice, count_of(&records)),
+        memory: memory_of(dice, length, &records),
         records,
     }
+}
+
+/// The memory length and the records of a board of 40 to 64 files: most times
+/// just enough memory or little more, now and then up to 32,768 bytes.
+fn crowded(dice: &mut Dice) -> (usize, Vec<Record>) {
+    let count = crowd(dice);
+    let least = count * SMALLEST_FILE;
+    let length = match dice.below(20) {
+        0 | 1 => MOST_MEMORY,
+        2 => dice.between(least, MOST_MEMORY),
+        3..=5 => dice.between(least, 4_000),
+        6..=10 => least,
+        _ => dice.between(least, 2 * least),
+    };
+    let mut records = many_records(dice, length, count);
+    if dice.chance(60) {
+        take_rest(dice, &mut records, length);
+    }
+    (length, records)
+}
+
+/// How many files a crowded board has: mostly as many as there can be.
+pub fn crowd(dice: &mut Dice) -> usize {
+    let some = dice.between(CROWD, MOST_FILES);
+    dice.one_of([some, MOST_FILES, MOST_FILES])
+}
+
+/// The files one after the other, each with some content, and zeros up to the
+/// memory's length, which the files must not exceed. Nothing here asks whether
+/// the board is sound.
+fn memory_of(dice: &mut Dice, length: usize, records: &[Record]) -> Vec<u8> {
+    let mut memory = Vec::new();
+    for record in records {
+        memory.extend(record.to_bytes());
+        let end = memory.len() + record.content_length();
+        let filled = content_length(dice, record.content_length());
+        memory.extend(message(dice, filled));
+        memory.resize(end, NUL);
+    }
+    memory.resize(length, NUL);
+    memory
+}
+
+/// The number of files as the settings have it.
+fn count_of(records: &[Record]) -> u8 {
+    u8::try_from(records.len()).unwrap_or(u8::MAX)
+}
+
+/// The bytes that files of these records take.
+pub fn used(records: &[Record]) -> usize {
+    records.iter().map(|record| record.whole_length()).sum()
 }
 
 /// Mostly 64 to 600 bytes, now and then up to 32,768.
@@ -42,7 +96,7 @@ pub fn memory_length(dice: &mut Dice) -> usize {
         0..=7 => LEAST_MEMORY,
         8..=15 => dice.between(601, 4_000),
         16 => dice.between(4_001, MOST_MEMORY),
-        17 if dice.chance(50) => MOST_MEMORY,
+        17 => MOST_MEMORY,
         _ => dice.between(LEAST_MEMORY, 600),
     }
 }
@@ -78,15 +132,28 @@ pub fn own_type(dice: &mut Dice) -> u8 {
 
 /// Records with distinct labels that fit into so much room.
 pub fn records(dice: &mut Dice, room: usize) -> Vec<Record> {
-    let wanted = match dice.below(40) {
-        0..=2 => 0,
-        3..=33 => dice.between(1, 6),
-        34..=38 => dice.between(7, 20),
-        _ => 64,
-    };
+    match dice.below(40) {
+        0..=2 => Vec::new(),
+        3..=32 => {
+            let count = dice.between(1, 6);
+            few_records(dice, room, count)
+        }
+        33..=37 => {
+            let count = dice.between(7, 20);
+            few_records(dice, room, count)
+        }
+        _ => {
+            let count = crowd(dice);
+            many_records(dice, room, count)
+        }
+    }
+}
+
+/// Up to so many records: the first ones may take all the room.
+fn few_records(dice: &mut Dice, room: usize, count: usize) -> Vec<Record> {
     let mut records: Vec<Record> = Vec::new();
     let mut left = room;
-    for _ in 0..wanted {
+    for _ in 0..count {
         let Some(most) = left.checked_sub(RECORD_LENGTH).filter(|&most| most > 0) else {
             break;
         };
@@ -95,6 +162,42 @@ pub fn records(dice: &mut Dice, room: usize) -> Vec<Record> {
         records.push(record);
     }
     records
+}
+
+/// So many records, or as many as can be: each takes at most its share of what
+/// the ones before it left.
+pub fn many_records(dice: &mut Dice, room: usize, count: usize) -> Vec<Record> {
+    let mut records: Vec<Record> = Vec::new();
+    let mut left = room;
+    for to_come in (1..=count.min(room / SMALLEST_FILE)).rev() {
+        let record = record(dice, &records, left / to_come - RECORD_LENGTH);
+        left -= record.whole_length();
+        records.push(record);
+    }
+    records
+}
+
+/// The last file becomes a TEXT, where it is none, and takes what is left of
+/// the room, so that it touches memory's very end.
+fn take_rest(dice: &mut Dice, records: &mut [Record], room: usize) {
+    let left = room.saturating_sub(used(records));
+    if let Some(last) = records.last_mut().filter(|_| left > 0) {
+        make_text(dice, last);
+        last.size = last.size.saturating_add(size_of(left));
+    }
+}
+
+/// Makes a record that of a TEXT.
+pub fn make_text(dice: &mut Dice, record: &mut Record) {
+    if record.kind != Kind::Text {
+        record.kind = Kind::Text;
+        record.start = start_code(dice);
+    }
+}
+
+/// A length as a SIZE.
+pub fn size_of(length: usize) -> u16 {
+    u16::try_from(length).unwrap_or(u16::MAX)
 }
 
 /// A record with a new label and at most so much content.
@@ -113,7 +216,7 @@ fn record(dice: &mut Dice, others: &[Record], most: usize) -> Record {
         label: new_label(dice, others),
         kind,
         locked: dice.chance(50),
-        size: u16::try_from(size).unwrap_or(u16::MAX),
+        size: size_of(size),
         start,
         stop,
     }
@@ -157,13 +260,14 @@ pub fn message(dice: &mut Dice, length: usize) -> Vec<u8> {
 
 /// Damages a board in one place. Now and then it stays sound.
 pub fn damage(dice: &mut Dice, board: &mut Board) {
-    match dice.below(8) {
+    match dice.below(10) {
         0 | 1 => damage_settings(dice, board),
         2 => damage_any_byte(dice, board),
         3 | 4 => damage_record(dice, board),
         5 => damage_content(dice, board),
         6 => damage_rest(dice, board),
-        _ => damage_length(dice, board),
+        7 => damage_length(dice, board),
+        _ => go_beyond(dice, board),
     }
 }
 
@@ -229,9 +333,8 @@ fn damage_content(dice: &mut Dice, board: &mut Board) {
 
 /// A byte after the last file that is not zero.
 fn damage_rest(dice: &mut Dice, board: &mut Board) {
-    let used: usize = board.records.iter().map(|r| r.whole_length()).sum();
     let last = board.memory.len().saturating_sub(1);
-    let place = dice.between(used.min(last), last);
+    let place = dice.between(used(&board.records).min(last), last);
     let value = dice.one_of([1, b'A', 255]);
     set(&mut board.memory, place, value);
 }
@@ -245,6 +348,26 @@ fn damage_length(dice: &mut Dice, board: &mut Board) {
         _ => dice.below(board.memory.len()),
     };
     board.memory.resize(length, 0);
+}
+
+/// The board lies just beyond one of its ends and would be sound but for that:
+/// memory of 63 or of 32,769 bytes, or 65 files.
+fn go_beyond(dice: &mut Dice, board: &mut Board) {
+    let (length, records) = match dice.below(8) {
+        0..=2 => {
+            let length = LEAST_MEMORY - 1;
+            (length, records(dice, length))
+        }
+        3 => (MOST_MEMORY + 1, records(dice, MOST_MEMORY)),
+        _ => {
+            let count = MOST_FILES + 1;
+            let length = count * SMALLEST_FILE + dice.one_of([0, 1, 100]);
+            (length, many_records(dice, length, count))
+        }
+    };
+    board.memory = memory_of(dice, length, &records);
+    board.settings.files = count_of(&records);
+    board.records = records;
 }
 
 fn any_file(dice: &mut Dice, board: &Board) -> Option<File> {

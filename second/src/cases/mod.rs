@@ -12,14 +12,12 @@ use self::dice::Dice;
 use self::frames::Sketch;
 use crate::body::MOST_BLOCKS;
 use crate::bytes::LOWEST_DATA;
-use crate::forms::Written;
-use crate::joining::join;
-use crate::reforming::reform;
 use crate::run::REPLY_MARGIN;
 use crate::soundness::{LEAST_MEMORY, MOST_MEMORY};
-use crate::stream::{Case, CALLS, FRESH_CALL, JOIN_CALL, REFORM_CALL, RUN_CALL, WRITE_CALL};
+use crate::stream::{
+    Answer, Case, CALLS, FRESH_CALL, JOIN_CALL, REFORM_CALL, RUN_CALL, WRITE_CALL,
+};
 use crate::translation::{MOST_PRINTABLE, MOST_TRANSLATED};
-use crate::writing::write;
 
 /// How often each call is made, in the order of [`CALLS`].
 const WEIGHTS: [usize; 5] = [8, 40, 14, 20, 18];
@@ -83,7 +81,7 @@ fn fresh_case(dice: &mut Dice) -> Case {
         0..=4 => LEAST_MEMORY - 1,
         5..=8 => dice.below(LEAST_MEMORY),
         9..=12 => dice.between(LEAST_MEMORY, LEAST_MEMORY + 1),
-        13 => dice.one_of([MOST_MEMORY - 1, MOST_MEMORY, MOST_MEMORY + 1]),
+        13..=16 => dice.one_of([MOST_MEMORY - 1, MOST_MEMORY, MOST_MEMORY + 1]),
         _ => boards::memory_length(dice),
     };
     Case::Fresh {
@@ -98,7 +96,11 @@ fn run_case(dice: &mut Dice) -> Case {
         return good_run(dice);
     }
     let mut board = boards::sound(dice);
-    let count = dice.between(1, 4);
+    let count = match dice.below(20) {
+        0 => MOST_BLOCKS + 1,
+        1 => MOST_BLOCKS,
+        _ => dice.between(1, 4),
+    };
     let mut sketch = sketch_for(dice, &board, count);
     if dice.chance(30) {
         boards::damage(dice, &mut board);
@@ -106,6 +108,7 @@ fn run_case(dice: &mut Dice) -> Case {
     let short_by = match dice.below(10) {
         0 => 1,
         1 => dice.between(1, REPLY_MARGIN),
+        2..=4 if board.memory.len() == MOST_MEMORY => 1,
         _ => 0,
     };
     if dice.chance(15) {
@@ -129,9 +132,9 @@ fn run_case(dice: &mut Dice) -> Case {
 fn good_run(dice: &mut Dice) -> Case {
     let board = boards::sound(dice);
     let count = match dice.below(40) {
-        0..=30 => dice.between(2, 8),
-        31..=37 => dice.between(9, 30),
-        38 => dice.between(31, MOST_BLOCKS),
+        0..=28 => dice.between(2, 8),
+        29..=35 => dice.between(9, 30),
+        36 => dice.between(31, MOST_BLOCKS),
         _ => MOST_BLOCKS,
     };
     let sketch = sketch_for(dice, &board, count);
@@ -150,7 +153,11 @@ fn sketch_for(dice: &mut Dice, board: &boards::Board, count: usize) -> Sketch {
         records: board.records.clone(),
         memory_length: board.memory.len(),
     };
-    let plans = blocks::for_board(dice, &mut sight, count);
+    let plans = if sight.is_crowded() && dice.chance(15) {
+        blocks::for_each_file(dice, &sight)
+    } else {
+        blocks::for_board(dice, &mut sight, count)
+    };
     let header = frames::reaching_header(dice, board.settings);
     Sketch::new(dice, header, plans)
 }
@@ -177,16 +184,14 @@ fn write_case(dice: &mut Dice) -> Case {
         let place = dice.below(data.len() + 1);
         data.insert(place, dice.one_of([0, 1, 2, 3, 4, 5]));
     }
-    let output = output(dice, |scratch| {
-        write(form, &header, command, &data, scratch)
-    });
-    Case::Write {
+    let case = Case::Write {
         form,
         header,
         command,
         data,
-        output,
-    }
+        output: Vec::new(),
+    };
+    with_some_output(dice, case)
 }
 
 /// A length of data that brings the result near 8,192 translated bytes.
@@ -204,12 +209,12 @@ fn reform_case(dice: &mut Dice) -> Case {
         sketch.grow_to(dice, target);
     }
     let frame = sent_or_faulty(dice, sketch, if is_long { 5 } else { 45 });
-    let output = output(dice, |scratch| reform(form, &frame, scratch));
-    Case::Reform {
+    let case = Case::Reform {
         form,
         frame,
-        output,
-    }
+        output: Vec::new(),
+    };
+    with_some_output(dice, case)
 }
 
 fn join_case(dice: &mut Dice) -> Case {
@@ -231,13 +236,13 @@ fn join_case(dice: &mut Dice) -> Case {
     }
     let first = sent_or_faulty(dice, first, 22);
     let second = sent_or_faulty(dice, second, 28);
-    let output = output(dice, |scratch| join(form, &first, &second, scratch));
-    Case::Join {
+    let case = Case::Join {
         form,
         first,
         second,
-        output,
-    }
+        output: Vec::new(),
+    };
+    with_some_output(dice, case)
 }
 
 /// Two frames that have together 64 blocks, or one more or less.
@@ -289,11 +294,10 @@ fn any_form(dice: &mut Dice) -> u8 {
     }
 }
 
-/// An output buffer for the call: just long enough, one byte short, longer, or
-/// of no use.
-fn output(dice: &mut Dice, call: impl Fn(&mut [u8]) -> Written) -> Vec<u8> {
-    let mut scratch = vec![0; MOST_PRINTABLE];
-    let needed = call(&mut scratch).length;
+/// The call with an output buffer: just long enough, one byte short, longer,
+/// or of no use.
+fn with_some_output(dice: &mut Dice, case: Case) -> Case {
+    let needed = written_length(&case);
     let length = match dice.below(20) {
         0..=6 => needed,
         7..=9 => needed.saturating_sub(1),
@@ -301,7 +305,15 @@ fn output(dice: &mut Dice, call: impl Fn(&mut [u8]) -> Written) -> Vec<u8> {
         11 => 0,
         _ => needed + dice.between(1, 20),
     };
-    filler(dice, length)
+    case.with_output(filler(dice, length))
+}
+
+/// How many bytes the call writes where the buffer does not stop it.
+fn written_length(case: &Case) -> usize {
+    match case.clone().with_output(vec![0; MOST_PRINTABLE]).answer() {
+        Answer::Output { written, .. } => written.length,
+        Answer::Fresh { .. } | Answer::Run { .. } => 0,
+    }
 }
 
 /// A buffer's contents before the call: one byte over and over.

@@ -51,7 +51,7 @@ impl Kit {
     }
 
     /// The board with one byte of memory changed.
-    fn with_byte(mut self, place: usize, value: u8) -> Kit {
+    pub fn with_byte(mut self, place: usize, value: u8) -> Kit {
         if let Some(byte) = self.memory.get_mut(place) {
             *byte = value;
         }
@@ -93,9 +93,10 @@ pub fn all() -> Vec<Stored> {
     list.cases
 }
 
+/// The cases so far.
 #[derive(Default)]
-struct List {
-    cases: Vec<Stored>,
+pub(super) struct List {
+    pub(super) cases: Vec<Stored>,
 }
 
 impl List {
@@ -112,7 +113,7 @@ impl List {
     }
 
     /// A run with a reply buffer of so many bytes.
-    fn run_with(
+    pub(super) fn run_with(
         &mut self,
         about: &str,
         (number, first): (Number, Number),
@@ -134,13 +135,13 @@ impl List {
     }
 
     /// A run that gives this number.
-    fn run(&mut self, about: &str, number: Number, kit: &Kit, frame: &[u8]) {
+    pub(super) fn run(&mut self, about: &str, number: Number, kit: &Kit, frame: &[u8]) {
         let room = kit.memory.len() + REPLY_MARGIN;
         self.run_with(about, (number, 0), kit, frame, room);
     }
 
     /// A run whose first refused block has this number, 0 where there is none.
-    fn blocks(&mut self, about: &str, first: Number, kit: &Kit, frame: &[u8]) {
+    pub(super) fn blocks(&mut self, about: &str, first: Number, kit: &Kit, frame: &[u8]) {
         let room = kit.memory.len() + REPLY_MARGIN;
         self.run_with(about, (DONE, first), kit, frame, room);
     }

@@ -3,6 +3,7 @@
 
 pub mod boards;
 pub mod build;
+pub mod full;
 pub mod outputs;
 
 use std::io::{self, Write};
@@ -20,10 +21,12 @@ pub struct Stored {
     pub first: Number,
 }
 
-/// All fixed cases: writing, re-forming and joining first, then the boards.
+/// All fixed cases: writing, re-forming and joining first, then the boards,
+/// the full ones last.
 pub fn all() -> Vec<Stored> {
     let mut cases = outputs::all();
     cases.extend(boards::all());
+    cases.extend(full::all());
     cases
 }
 

@@ -1,15 +1,23 @@
-//! The random cases: every number that a call can answer occurs, and most runs
-//! are on sound, addressed boards.
+//! The random cases: every number that a call can answer occurs, most runs are
+//! on sound, addressed boards, and both ends of every bound are reached.
 
 use std::collections::BTreeMap;
 
 use crate::common::assert_every_number;
+use crate::coverage::{Fact, Seen};
 use second::cases::any_case;
 use second::cases::dice::Dice;
 use second::cases::write_cases;
-use second::stream::{next_case, Answer, Case, Next, CALLS};
+use second::stream::{next_case, Answer, Case, Next, CALLS, RUN_CALL};
 
 const CASES: usize = 5_000;
+
+/// The seed and the number of the cases on which .ci/run compares the two
+/// implementations: `seed` and `count` there.
+const GATE_SEED: u64 = 20_261_115;
+const GATE_COUNT: usize = 4_000;
+/// What these cases may take, so that both programs stay quick.
+const GATE_MOST_BYTES: usize = 12_000_000;
 
 /// How often each call answered each number; the first refused block's number
 /// of a run counts under "r".
@@ -74,9 +82,30 @@ fn the_stream_is_the_cases() {
     assert_eq!(next_case(&mut input).expect("memory gives it"), Next::End);
 }
 
-#[test]
-fn three_thousand_cases_are_a_few_megabytes() {
+/// The cases as the gate's stream hands them to both programs.
+fn gate_cases() -> Vec<Case> {
     let mut stream = Vec::new();
-    write_cases(&mut stream, 1, 3_000, &CALLS).expect("memory takes it");
-    assert!(stream.len() < 5_000_000, "{}", stream.len());
+    write_cases(&mut stream, GATE_SEED, GATE_COUNT, &CALLS).expect("memory takes it");
+    println!("{} bytes", stream.len());
+    assert!(stream.len() < GATE_MOST_BYTES, "{}", stream.len());
+    let mut input = stream.as_slice();
+    let mut cases = Vec::new();
+    while let Next::Case(case) = next_case(&mut input).expect("memory gives it") {
+        cases.push(case);
+    }
+    cases
+}
+
+/// The cases of the gate reach both ends of what document 01 allows, and every
+/// command on a crowded board.
+#[test]
+fn the_gate_reaches_every_end() {
+    let cases = gate_cases();
+    assert_eq!(cases.len(), GATE_COUNT);
+    let runs = cases.iter().filter(|case| case.call() == RUN_CALL).count();
+    let seen = Seen::in_cases(cases.into_iter());
+    seen.assert_all();
+    let crowded: usize = (40..=64).map(|files| seen.count(Fact::Files(files))).sum();
+    println!("{crowded} of {runs} runs on 40 to 64 files");
+    assert!(10 * crowded >= runs, "{crowded} of {runs}");
 }

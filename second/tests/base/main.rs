@@ -2,6 +2,7 @@
 #![forbid(unsafe_code)]
 
 mod common;
+mod coverage;
 mod edges_of_blocks;
 mod edges_of_frames;
 mod edges_of_outputs;

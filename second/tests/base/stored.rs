@@ -1,26 +1,29 @@
 //! The fixed cases: each gives the number written beside it, they cover every
-//! refusal, and they stay small.
+//! refusal and both ends of every bound, and they stay small.
 
 use std::collections::BTreeSet;
 
 use crate::common::assert_every_number;
-use second::stored::{all, write_stored};
+use crate::coverage::Seen;
+use second::stored::{all, write_stored, Stored};
 use second::stream::CALLS;
 
 #[test]
 fn each_gives_its_number() {
     for stored in all() {
-        let about = stored.about;
-        let call = char::from(stored.case.call());
-        let case = format!("{:?}", stored.case);
-        let answer = stored.case.answer();
-        let shown: String = case.chars().take(400).collect();
+        let answer = stored.case.clone().answer();
         assert_eq!(
             (answer.number(), answer.first_number()),
             (stored.number, stored.first),
-            "{call} {about}: {shown}"
+            "{}",
+            start_of(&stored)
         );
     }
+}
+
+/// What a case is about and how it starts.
+fn start_of(stored: &Stored) -> String {
+    format!("{stored:?}").chars().take(400).collect()
 }
 
 #[test]
@@ -36,6 +39,14 @@ fn every_refusal_is_there() {
     assert_every_number(&seen);
 }
 
+/// The fixed cases reach both ends of what document 01 allows, and every
+/// command on a full board.
+#[test]
+fn every_end_is_there() {
+    let cases = all().into_iter().map(|stored| stored.case);
+    Seen::in_cases(cases).assert_all();
+}
+
 #[test]
 fn writing_comes_first_and_the_whole_is_small() {
     let cases = all();
@@ -48,7 +59,8 @@ fn writing_comes_first_and_the_whole_is_small() {
     assert!(last_output < first_board);
     let mut stream = Vec::new();
     write_stored(&mut stream, &CALLS).expect("memory takes it");
-    assert!(stream.len() < 600_000, "{}", stream.len());
+    println!("{} bytes", stream.len());
+    assert!(stream.len() < 2_000_000, "{}", stream.len());
     let mut outputs = Vec::new();
     write_stored(&mut outputs, b"WFJ").expect("memory takes it");
     assert!(stream.starts_with(&outputs));

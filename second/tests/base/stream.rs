@@ -1,13 +1,25 @@
 //! The case stream: what is read, what is written, and what is a bad case.
 
-use second::settings::Settings;
-use second::stream::{line, next_case, replay, Case, Next};
+use std::io::Write;
+use std::process::{Command, Output, Stdio};
 
-fn lines(stream: &[u8]) -> String {
+use second::settings::Settings;
+use second::stream::{line, next_case, replay, Case, Ended, Next};
+
+/// The lines for a stream, and how it ended.
+fn replayed(stream: &[u8]) -> (String, Ended) {
     let mut input = stream;
     let mut output = Vec::new();
-    replay(&mut input, &mut output).expect("memory takes it");
-    String::from_utf8(output).expect("lines are ASCII")
+    let ended = replay(&mut input, &mut output).expect("memory takes it");
+    let lines = String::from_utf8(output).expect("lines are ASCII");
+    (lines, ended)
+}
+
+/// The lines for a stream of whole cases.
+fn lines(stream: &[u8]) -> String {
+    let (lines, ended) = replayed(stream);
+    assert_eq!(ended, Ended::Whole);
+    lines
 }
 
 /// The string part of a case: its length in two bytes, then its bytes.
@@ -117,10 +129,43 @@ fn bad_cases_end_the_stream() {
         &nine,
     ] {
         let stream = [&good, bad].concat();
-        assert_eq!(lines(&stream), format!("{good_line}bad case\n"), "{bad:?}");
+        let expected = (format!("{good_line}bad case\n"), Ended::BadCase);
+        assert_eq!(replayed(&stream), expected, "{bad:?}");
     }
     let stream = [&good, b"X".as_slice(), &good].concat();
-    assert_eq!(lines(&stream), format!("{good_line}bad case\n"));
+    let expected = (format!("{good_line}bad case\n"), Ended::BadCase);
+    assert_eq!(replayed(&stream), expected);
+}
+
+/// Runs the program's `replay` over a stream.
+fn replay_by_the_program(stream: &[u8]) -> Output {
+    let mut program = Command::new(env!("CARGO_BIN_EXE_second"))
+        .arg("replay")
+        .stdin(Stdio::piped())
+        .stdout(Stdio::piped())
+        .stderr(Stdio::piped())
+        .spawn()
+        .expect("the program starts");
+    let mut input = program.stdin.take().expect("a pipe to the program");
+    input.write_all(stream).expect("the program reads it");
+    drop(input);
+    program.wait_with_output().expect("the program ends")
+}
+
+/// A stream cut short must not look like a whole one to whoever asks for the
+/// program's status.
+#[test]
+fn the_program_fails_on_a_stream_cut_short() {
+    let whole = [b"F\x00".to_vec(), string(b""), string(b"")].concat();
+    let good = replay_by_the_program(&whole);
+    assert_eq!(good.status.code(), Some(0));
+    assert_eq!(good.stdout, b"15 0 -\n");
+    assert_eq!(good.stderr, b"");
+    let cut = [&whole, &whole[..whole.len() - 1]].concat();
+    let bad = replay_by_the_program(&cut);
+    assert_eq!(bad.status.code(), Some(1));
+    assert_eq!(bad.stdout, b"15 0 -\nbad case\n");
+    assert!(bad.stderr.starts_with(b"second: "), "{:?}", bad.stderr);
 }
 
 #[test]

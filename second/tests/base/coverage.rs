@@ -1,0 +1,377 @@
+//! What is looked for in a stream of cases, the random and the fixed ones: the
+//! ends of what document 01 allows, and every command on a crowded board.
+
+use std::collections::{BTreeMap, BTreeSet};
+
+use second::body::{Block, MOST_BLOCKS};
+use second::bytes::{
+    CONFIGURATION, DATE, EOT, POOL, READ_SPECIAL, READ_STRING, READ_TEXT, SERIAL_ADDRESS, SPEAKER,
+    STX, TIME, TIME_FORMAT, WRITE_SPECIAL, WRITE_STRING, WRITE_TEXT,
+};
+use second::commands::{run_block, Board};
+use second::files::{unused, walk, MOST_FILES};
+use second::frame;
+use second::header::addressed;
+use second::hex::frame_digit;
+use second::numbers::{
+    BAD_BODY, BAD_LIST, DONE, NOT_SOUND, SHORT_REPLY_BUFFER, WRONG_MEMORY, WRONG_SUM,
+};
+use second::record::{labels_are_distinct, Record, RECORD_LENGTH};
+use second::run::{Ran, REPLY_MARGIN};
+use second::settings::Settings;
+use second::soundness::{is_sound, LEAST_MEMORY, MOST_MEMORY};
+use second::stream::{Answer, Case};
+use second::translation::{translate, Translated};
+
+/// From so many files on a command counts as done on a crowded board.
+const CROWDED: u8 = 60;
+/// A memory that 64 files of a few bytes each do not leave.
+const SMALL_MEMORY: usize = 1_536;
+/// The bytes of a reply that are not data.
+const EMPTY_REPLY: usize = 33;
+/// The functions that "E" sets.
+const SET: [u8; 6] = [
+    TIME,
+    SPEAKER,
+    TIME_FORMAT,
+    DATE,
+    SERIAL_ADDRESS,
+    CONFIGURATION,
+];
+/// The functions that "F" reads.
+const READ: [u8; 6] = [TIME, SPEAKER, TIME_FORMAT, DATE, CONFIGURATION, POOL];
+
+/// Something that a stream of cases is to hold.
+#[derive(Clone, Copy, Debug, PartialEq, Eq, PartialOrd, Ord)]
+pub enum Fact {
+    /// A fresh board asked for in memory of this length, with this number.
+    Fresh(usize, u8),
+    /// A run on a sound board in memory of this length.
+    Memory(usize),
+    /// A run on a board that is sound but for its memory of this length: 1.
+    WrongMemory(usize),
+    /// A run on a sound board of this many files.
+    Files(usize),
+    /// A run on a board that is sound but for its 65 files: 1.
+    TooManyFiles,
+    /// A run on a sound board without files in memory of this length.
+    NoFilesIn(usize),
+    /// A sound board of 64 files in a small memory.
+    FullAndSmall,
+    /// A sound board of 64 files in 32,768 bytes.
+    FullAndLarge,
+    /// A sound board of 64 files, the last of which touches memory's end.
+    FullToTheEnd,
+    /// A run whose reply buffer is as short as it may be, at 32,768 bytes.
+    LeastReplyBuffer,
+    /// A run whose reply buffer is one byte shorter, at 32,768 bytes: 2.
+    ShortReplyBuffer,
+    /// A run of 64 blocks that were all done.
+    FullFrame,
+    /// A run of a frame that is good but for its 65th block: 7.
+    TooManyBlocks,
+    /// 64 blocks that each wrote another file.
+    EveryFileWritten,
+    /// A command that was done on a board of 60 or more files.
+    Command(u8),
+    /// A function that was set or read on such a board.
+    Function(u8, u8),
+    /// A "$" list of 64 records that was done.
+    FullList,
+    /// A "$" list that is good but for its 65th record: 25.
+    TooManyRecords,
+    /// A reply with the 64 records of a full board.
+    FullListReply,
+}
+
+/// All that is looked for.
+pub fn wanted() -> Vec<Fact> {
+    let mut wanted = vec![
+        Fact::Fresh(LEAST_MEMORY - 1, WRONG_MEMORY),
+        Fact::Fresh(LEAST_MEMORY, DONE),
+        Fact::Fresh(MOST_MEMORY, DONE),
+        Fact::Fresh(MOST_MEMORY + 1, WRONG_MEMORY),
+        Fact::Memory(LEAST_MEMORY),
+        Fact::Memory(MOST_MEMORY),
+        Fact::WrongMemory(LEAST_MEMORY - 1),
+        Fact::WrongMemory(MOST_MEMORY + 1),
+        Fact::Files(0),
+        Fact::Files(MOST_FILES),
+        Fact::TooManyFiles,
+        Fact::NoFilesIn(LEAST_MEMORY),
+        Fact::NoFilesIn(MOST_MEMORY),
+        Fact::FullAndSmall,
+        Fact::FullAndLarge,
+        Fact::FullToTheEnd,
+        Fact::LeastReplyBuffer,
+        Fact::ShortReplyBuffer,
+        Fact::FullFrame,
+        Fact::TooManyBlocks,
+        Fact::EveryFileWritten,
+        Fact::FullList,
+        Fact::TooManyRecords,
+        Fact::FullListReply,
+    ];
+    wanted.extend([WRITE_TEXT, WRITE_STRING, READ_TEXT, READ_STRING].map(Fact::Command));
+    wanted.extend(SET.map(|label| Fact::Function(WRITE_SPECIAL, label)));
+    wanted.extend(READ.map(|label| Fact::Function(READ_SPECIAL, label)));
+    wanted
+}
+
+/// The facts of a stream, each with how often it was seen.
+#[derive(Default)]
+pub struct Seen {
+    counts: BTreeMap<Fact, usize>,
+}
+
+impl Seen {
+    /// Looks at all cases and at their answers.
+    pub fn in_cases(cases: impl Iterator<Item = Case>) -> Seen {
+        let mut seen = Seen::default();
+        for case in cases {
+            seen.look_at(case);
+        }
+        seen
+    }
+
+    /// Checks that everything that is looked for was seen.
+    pub fn assert_all(&self) {
+        for fact in wanted() {
+            println!("{} {fact:?}", self.count(fact));
+        }
+        for fact in wanted() {
+            assert!(self.count(fact) > 0, "no case shows {fact:?}");
+        }
+    }
+
+    /// How often a fact was seen.
+    pub fn count(&self, fact: Fact) -> usize {
+        self.counts.get(&fact).copied().unwrap_or(0)
+    }
+
+    fn add(&mut self, fact: Fact) {
+        *self.counts.entry(fact).or_insert(0) += 1;
+    }
+
+    fn add_if(&mut self, holds: bool, fact: Fact) {
+        if holds {
+            self.add(fact);
+        }
+    }
+
+    fn look_at(&mut self, case: Case) {
+        let answer = case.clone().answer();
+        match (case, answer) {
+            (Case::Fresh { memory, .. }, Answer::Fresh { made, .. }) => {
+                self.add(Fact::Fresh(memory.len(), made.number));
+            }
+            (
+                Case::Run {
+                    settings,
+                    memory,
+                    reply,
+                    frame,
+                },
+                Answer::Run { ran, .. },
+            ) => {
+                if is_sound(settings, &memory) {
+                    self.look_at_board(settings, &memory);
+                    self.look_at_buffer(&memory, &reply, &ran);
+                    self.look_at_frame(settings, &memory, &frame, &ran);
+                } else {
+                    self.look_at_unsound(settings, &memory, &ran);
+                }
+            }
+            _ => {}
+        }
+    }
+
+    /// A sound board, as it was handed in.
+    fn look_at_board(&mut self, settings: Settings, memory: &[u8]) {
+        let length = memory.len();
+        let is_full = usize::from(settings.files) == MOST_FILES;
+        self.add(Fact::Memory(length));
+        self.add(Fact::Files(usize::from(settings.files)));
+        self.add_if(settings.files == 0, Fact::NoFilesIn(length));
+        self.add_if(is_full && length <= SMALL_MEMORY, Fact::FullAndSmall);
+        self.add_if(is_full && length == MOST_MEMORY, Fact::FullAndLarge);
+        let touches_end = unused(memory, settings.files) == 0;
+        self.add_if(is_full && touches_end, Fact::FullToTheEnd);
+    }
+
+    /// A board that is refused, though it would be sound with one zero of
+    /// memory more or less, or with one file less.
+    fn look_at_unsound(&mut self, settings: Settings, memory: &[u8], ran: &Ran) {
+        assert_eq!(ran.number, NOT_SOUND);
+        let is_sound_with_more = is_sound(settings, &[memory, &[0]].concat());
+        let is_sound_with_less = match memory.split_last() {
+            Some((0, less)) => is_sound(settings, less),
+            _ => false,
+        };
+        self.add_if(
+            is_sound_with_more || is_sound_with_less,
+            Fact::WrongMemory(memory.len()),
+        );
+        let is_over = usize::from(settings.files) == MOST_FILES + 1;
+        if is_over && is_good_but_for_its_files(settings, memory) {
+            self.add(Fact::TooManyFiles);
+        }
+    }
+
+    fn look_at_buffer(&mut self, memory: &[u8], reply: &[u8], ran: &Ran) {
+        let least = memory.len() + REPLY_MARGIN;
+        if memory.len() == MOST_MEMORY {
+            let is_least = reply.len() == least && ran.number == DONE;
+            let is_short = reply.len() + 1 == least && ran.number == SHORT_REPLY_BUFFER;
+            self.add_if(is_least, Fact::LeastReplyBuffer);
+            self.add_if(is_short, Fact::ShortReplyBuffer);
+        }
+    }
+
+    fn look_at_frame(&mut self, settings: Settings, memory: &[u8], raw: &[u8], ran: &Ran) {
+        let Ok(translated) = translate(raw) else {
+            return;
+        };
+        match ran.number {
+            DONE => self.look_at_blocks(settings, memory, &translated, ran),
+            BAD_BODY => self.add_if(is_good_but_for_its_blocks(&translated), Fact::TooManyBlocks),
+            _ => {}
+        }
+    }
+
+    /// A frame that was run, and its blocks one by one.
+    fn look_at_blocks(
+        &mut self,
+        settings: Settings,
+        memory: &[u8],
+        translated: &Translated<'_>,
+        ran: &Ran,
+    ) {
+        let frame = frame::read(translated).expect("a frame that was run");
+        assert!(addressed(&frame.pairs, settings.own_type, settings.address));
+        self.add_if(ran.done == MOST_BLOCKS, Fact::FullFrame);
+        let blocks = met(settings, memory, &frame.blocks);
+        for met in &blocks {
+            self.look_at_list(met, memory.len());
+            self.look_at_reply(met);
+            let is_crowded = settings.files.min(met.files) >= CROWDED;
+            if is_crowded && met.outcome.is_ok() {
+                self.add(done_by(met.block));
+            }
+        }
+        let written = blocks.iter().filter_map(Met::written_label);
+        let labels: BTreeSet<u8> = written.collect();
+        self.add_if(labels.len() == MOST_FILES, Fact::EveryFileWritten);
+    }
+
+    /// The reply to F "$" on a full board.
+    fn look_at_reply(&mut self, met: &Met<'_>) {
+        let reads_list = (met.block.command, met.block.data) == (READ_SPECIAL, &[CONFIGURATION]);
+        if let (true, Ok(Some(reply))) = (reads_list, &met.outcome) {
+            let records = usize::from(met.files) * RECORD_LENGTH;
+            assert_eq!(reply.len(), EMPTY_REPLY + records);
+            self.add_if(usize::from(met.files) == MOST_FILES, Fact::FullListReply);
+        }
+    }
+
+    /// A "$" list of 64 records that is done, and one of 65 that is not.
+    fn look_at_list(&mut self, met: &Met<'_>, memory_length: usize) {
+        let (WRITE_SPECIAL, [CONFIGURATION, list @ ..]) = (met.block.command, met.block.data)
+        else {
+            return;
+        };
+        let is_full = list.len() == MOST_FILES * RECORD_LENGTH;
+        self.add_if(is_full && met.outcome.is_ok(), Fact::FullList);
+        let is_over = list.len() == (MOST_FILES + 1) * RECORD_LENGTH;
+        if is_over && is_good_but_for_its_count(list, memory_length) {
+            let is_wrong_sum = met.outcome == Err(WRONG_SUM);
+            assert!(is_wrong_sum || met.outcome == Err(BAD_LIST));
+            self.add_if(!is_wrong_sum, Fact::TooManyRecords);
+        }
+    }
+}
+
+/// A block, the number of files that it met on the board, and what came of it.
+struct Met<'a> {
+    block: &'a Block<'a>,
+    files: u8,
+    outcome: Result<Option<Vec<u8>>, u8>,
+}
+
+impl Met<'_> {
+    /// The label of the file that the block wrote.
+    fn written_label(&self) -> Option<u8> {
+        match self.block.command {
+            WRITE_TEXT | WRITE_STRING if self.outcome.is_ok() => self.block.data.first().copied(),
+            _ => None,
+        }
+    }
+}
+
+/// Runs the blocks one by one.
+fn met<'a>(settings: Settings, memory: &[u8], blocks: &'a [Block<'a>]) -> Vec<Met<'a>> {
+    let mut memory = memory.to_vec();
+    let mut board = Board {
+        settings,
+        memory: &mut memory,
+    };
+    blocks
+        .iter()
+        .map(|block| Met {
+            block,
+            files: board.settings.files,
+            outcome: run_block(&mut board, block),
+        })
+        .collect()
+}
+
+/// What a block that was done shows of commands and functions.
+fn done_by(block: &Block<'_>) -> Fact {
+    match block.command {
+        WRITE_SPECIAL | READ_SPECIAL => Fact::Function(block.command, block.data[0]),
+        _ => Fact::Command(block.command),
+    }
+}
+
+/// Whether 65 files stand in memory, good in themselves and with labels of
+/// their own, of which the first 64 are a sound board.
+fn is_good_but_for_its_files(mut settings: Settings, memory: &[u8]) -> bool {
+    let Some((files, _)) = walk(memory, settings.files) else {
+        return false;
+    };
+    let records: Vec<Record> = files.iter().map(|file| file.record).collect();
+    let last = files[MOST_FILES].content.start - RECORD_LENGTH;
+    settings.files -= 1;
+    labels_are_distinct(&records) && is_sound(settings, &memory[..last])
+}
+
+/// Whether a frame of 65 blocks reads well when its last block or its first
+/// is left out, so that nothing but their number is wrong.
+fn is_good_but_for_its_blocks(translated: &Translated<'_>) -> bool {
+    let bytes = translated.bytes.as_ref();
+    let starts: Vec<usize> = (0..bytes.len()).filter(|&at| bytes[at] == STX).collect();
+    let [first, second, .., last] = starts[..] else {
+        return false;
+    };
+    let but_last = [&bytes[..last], &[EOT]].concat();
+    let but_first = [&bytes[..first], &bytes[second..]].concat();
+    let reads_well = |bytes: Vec<u8>| {
+        let way = translated.way;
+        let bytes = bytes.into();
+        frame::read(&Translated { bytes, way }).is_ok()
+    };
+    starts.len() == MOST_BLOCKS + 1 && reads_well(but_last) && reads_well(but_first)
+}
+
+/// Whether all records of a list are good in themselves, have labels of their
+/// own and fit into memory together.
+fn is_good_but_for_its_count(list: &[u8], memory_length: usize) -> bool {
+    let records: Option<Vec<Record>> = list
+        .chunks(RECORD_LENGTH)
+        .map(|bytes| Record::parse(<[u8; RECORD_LENGTH]>::try_from(bytes).ok()?, frame_digit))
+        .collect();
+    let Some(records) = records else { return false };
+    let used: usize = records.iter().map(|record| record.whole_length()).sum();
+    let sizes_are_good = records.iter().all(|record| record.size != 0);
+    labels_are_distinct(&records) && sizes_are_good && used <= memory_length
+}
