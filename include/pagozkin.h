@@ -18,6 +18,42 @@
 extern "C" {
 #endif
 
+/* The version of header and library: a changed struct, number or call changes the first part, an added one the second part. */
+#define PAGOZKIN_VERSION_MAJOR 1
+#define PAGOZKIN_VERSION_MINOR 0
+#define PAGOZKIN_VERSION_PATCH 0
+
+/* Marks every call: an answer that is thrown away hides a refusal, and a compiler that can shall warn of it. */
+#if defined(__GNUC__) || defined(__clang__)
+#define PAGOZKIN_MUST_USE __attribute__((warn_unused_result))
+#else
+#define PAGOZKIN_MUST_USE
+#endif
+
+/* The limits: how long buffers and frames may be, and how much they may hold. */
+#define PAGOZKIN_MOST_STANDARD 8192   /* bytes of a standard frame: 3 is "over 8,192 bytes standard" */
+#define PAGOZKIN_MOST_PRINTABLE 24576 /* characters of a printable frame: "or 24,576 printable" */
+#define PAGOZKIN_MOST_TRANSLATED 8192 /* bytes that a printable frame stands for: "or over 8,192 translated" */
+#define PAGOZKIN_MOST_PAIRS 16        /* "1 to 16 pairs joined by commas" */
+#define PAGOZKIN_MOST_BLOCKS 64       /* "1 to 64 blocks" */
+#define PAGOZKIN_LEAST_MEMORY 64      /* "Memory is 64 to 32,768 bytes." */
+#define PAGOZKIN_MOST_MEMORY 32768    /* the same */
+#define PAGOZKIN_MOST_FILES 64        /* "It holds 0 to 64 files" */
+#define PAGOZKIN_RECORD 11            /* bytes of memory that a file takes besides its SIZE: "an 11-byte record" */
+#define PAGOZKIN_REPLY_ROOM 64        /* what a reply buffer needs beyond the memory's length: "memory plus 64" */
+#define PAGOZKIN_MOST_RESULT 24576    /* bytes of a result, in any form: "8,192 translated bytes", each at most three in print */
+
+/* The room that a read is lent: bytes that a printable frame stands for, at most. */
+#define PAGOZKIN_ROOM PAGOZKIN_MOST_TRANSLATED
+
+/* Initialises an array of the types that a board may have: "Own type is one of Table 4's codes 23H to 26H, 31H, 32H, 43H, 44H, 45H,
+ * 55H, 5EH, 61H to 72H, 74H, 75H." */
+#define PAGOZKIN_OWN_TYPES                                                                              \
+    {                                                                                                   \
+        0x23, 0x24, 0x25, 0x26, 0x31, 0x32, 0x43, 0x44, 0x45, 0x55, 0x5E, 0x61, 0x62, 0x63, 0x64, 0x65, \
+        0x66, 0x67, 0x68, 0x69, 0x6A, 0x6B, 0x6C, 0x6D, 0x6E, 0x6F, 0x70, 0x71, 0x72, 0x74, 0x75        \
+    }
+
 /* The numbers that come back. */
 enum {
     PAGOZKIN_DONE = 0,             /* "frame run, written, re-formed or joined; fresh board made" */
@@ -60,7 +96,8 @@ enum {
     PAGOZKIN_PRINTABLE_FORM = 3 /* "form 2 without the NULs, bytes below 20H, above 7EH and 5FH as escapes" */
 };
 
-/* "Settings travel as one record, handed in and handed back". */
+/* "Settings travel as one record, handed in and handed back". The library keeps no clock: between runs the firmware's clock writes
+ * hour, minute, month, day and year here, these alone and each in its range; out of it the next run answers 1. */
 typedef struct pagozkin_settings {
     uint8_t hour;    /* 0 to 23 */
     uint8_t minute;  /* 0 to 59 */
@@ -79,7 +116,7 @@ typedef struct pagozkin_tally {
     uint8_t done;    /* "blocks done" */
     uint8_t refused; /* "blocks refused" */
     uint8_t place;   /* "the place (from 1) .. of the first refused block", "0 if none" */
-    uint8_t first;   /* "and number of the first refused block", "0 if none" */
+    uint8_t reason;  /* "and number of the first refused block", "0 if none" */
     size_t length;   /* "the reply's length", 0 "where there is no reply" */
 } pagozkin_tally;
 
@@ -119,17 +156,14 @@ enum {
 };
 
 /* "A block is STX, a command byte, data." */
-typedef struct pagozkin_block {
+typedef struct pagozkin_block_places {
     uint8_t kind;    /* one of the three above; with PAGOZKIN_NO_BLOCK the rest but next is 0 */
     uint8_t command; /* its command byte */
     uint8_t right;   /* 0: it has a checksum, and a wrong one; else 1 */
     size_t from;     /* where its data start */
     size_t to;       /* where they end: the first byte behind them */
     size_t next;     /* where the next block starts, or the end of the bytes */
-} pagozkin_block;
-
-/* Bytes that a printable frame stands for, at most. */
-#define PAGOZKIN_ROOM 8192
+} pagozkin_block_places;
 
 /* Stack in bytes that a call needs, those of the C library's memset included, as libport.a stands (x86-64). */
 #define PAGOZKIN_STACK_FRESH 512
@@ -143,39 +177,42 @@ typedef struct pagozkin_block {
 
 /* "A fresh board has 00:00, 01 01 00, format S, speaker off, address 00, no files, memory all zero." 0, 10 or 11.
  * C must see to: memory valid for memory_len bytes. */
-pagozkin_made pagozkin_fresh(uint8_t own, uint8_t *memory, size_t memory_len);
+pagozkin_made pagozkin_fresh(uint8_t own, uint8_t *memory, size_t memory_len) PAGOZKIN_MUST_USE;
 
 /* "A board is sound when all this holds": 1 if it is, 0 if not.
  * C must see to: memory valid for memory_len bytes. */
-uint8_t pagozkin_is_sound(pagozkin_settings settings, const uint8_t *memory, size_t memory_len);
+uint8_t pagozkin_is_sound(pagozkin_settings settings, const uint8_t *memory, size_t memory_len) PAGOZKIN_MUST_USE;
 
 /* "running one frame on a board": 0, or 1 to 9. A reply "stands at the start of the reply buffer; nothing after it is touched".
  * C must see to: memory, reply and frame valid for their lengths, and no byte in two of them. */
 pagozkin_answer pagozkin_run(pagozkin_settings settings, uint8_t *memory, size_t memory_len, uint8_t *reply, size_t reply_len,
-                             const uint8_t *frame, size_t frame_len);
+                             const uint8_t *frame, size_t frame_len) PAGOZKIN_MUST_USE;
 
 /* "writing a one-command frame": 0, 15, 6, 16, 18 or 14. header is the header's text, text the command's data.
  * C must see to: header, text and out valid for their lengths, and no byte of out in the others. */
 pagozkin_written pagozkin_write(uint8_t form, const uint8_t *header, size_t header_len, uint8_t command, const uint8_t *text,
-                                size_t text_len, uint8_t *out, size_t out_len);
+                                size_t text_len, uint8_t *out, size_t out_len) PAGOZKIN_MUST_USE;
 
 /* "putting a frame into another form (re-forming)": 0, 15, 3 to 8, 17, 18 or 14.
  * C must see to: frame and out valid for their lengths, and no byte of out in frame. */
-pagozkin_written pagozkin_reform(uint8_t form, const uint8_t *frame, size_t frame_len, uint8_t *out, size_t out_len);
+pagozkin_written pagozkin_reform(uint8_t form, const uint8_t *frame, size_t frame_len, uint8_t *out,
+                                 size_t out_len) PAGOZKIN_MUST_USE;
 
 /* "Joining puts the second frame's blocks after the first's under the common header.": 0, 15, 3 to 8, 17, 12, 13, 18 or 14.
  * C must see to: first, second and out valid for their lengths, and no byte of out in the others. */
 pagozkin_written pagozkin_join(uint8_t form, const uint8_t *first, size_t first_len, const uint8_t *second, size_t second_len,
-                               uint8_t *out, size_t out_len);
+                               uint8_t *out, size_t out_len) PAGOZKIN_MUST_USE;
 
-/* "How a frame reads": 0, or 3 to 8, and where its blocks start. A standard frame leaves the room untouched.
+/* "How a frame reads": 0, or 3 to 8, and where its blocks start. A printable frame without a fault (5), of at most 24,576
+ * characters, that stands for at most 8,192 bytes leaves these bytes at the start of the room whatever the answer, so with 4, 6, 7
+ * and 8 too; nothing behind them is touched. Every other frame leaves the room untouched.
  * C must see to: frame valid for frame_len bytes, room for PAGOZKIN_ROOM, and no byte in both. */
-pagozkin_places pagozkin_read(const uint8_t *frame, size_t frame_len, uint8_t room[PAGOZKIN_ROOM]);
+pagozkin_places pagozkin_read(const uint8_t *frame, size_t frame_len, uint8_t room[PAGOZKIN_ROOM]) PAGOZKIN_MUST_USE;
 
 /* "The blocks are taken by a reader that remembers the frame and its place in it.": the block at a place, at first places.body,
  * then block.next as long as kind is PAGOZKIN_MORE. bytes are the frame, or those in the room, places.length of them.
  * C must see to: bytes valid for bytes_len bytes; at may be any number. */
-pagozkin_block pagozkin_step(const uint8_t *bytes, size_t bytes_len, size_t at);
+pagozkin_block_places pagozkin_step(const uint8_t *bytes, size_t bytes_len, size_t at) PAGOZKIN_MUST_USE;
 
 #ifdef __cplusplus
 }

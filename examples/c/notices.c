@@ -7,10 +7,10 @@
 #define MEMORY 512
 #define FRAME 256
 
-/* The board, and a buffer for its replies: "memory plus 64". */
+/* The board, and a buffer for its replies. */
 static pagozkin_settings settings;
 static uint8_t memory[MEMORY];
-static uint8_t reply[MEMORY + 64];
+static uint8_t reply[MEMORY + PAGOZKIN_REPLY_ROOM];
 
 /* A frame for every sign ("Z00"), summed, with one command. */
 static size_t write_frame(char command, const char *text, uint8_t out[FRAME])
@@ -30,7 +30,7 @@ static void list_blocks(const uint8_t *frame, size_t length)
         return;
     const uint8_t *bytes = p.printable ? room : frame;
     size_t at = p.body;
-    pagozkin_block b;
+    pagozkin_block_places b;
     do {
         b = pagozkin_step(bytes, p.length, at);
         printf("  %c, %zu bytes of data\n", b.command, b.to - b.from);

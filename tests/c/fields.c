@@ -1,26 +1,15 @@
 /* Each field of each struct of pagozkin.h, by name, after calls that give every field of a struct another value;
- * and each call with empty slices. */
+ * what a read leaves in its room; and each call with empty slices. */
+#include "expect.h"
+
 #include <pagozkin.h>
-#include <stdio.h>
 #include <string.h>
 
 #define MEMORY 512
 
 static uint8_t memory[MEMORY];
-static uint8_t reply[MEMORY + 64];
+static uint8_t reply[MEMORY + PAGOZKIN_REPLY_ROOM];
 static uint8_t room[PAGOZKIN_ROOM];
-static int faults;
-
-static void is(const char *name, size_t value, size_t expected)
-{
-    if (value != expected) {
-        printf("%s is %zu and not %zu\n", name, value, expected);
-        faults++;
-    }
-}
-
-#define IS(field, expected) is(#field, field, expected)
-#define BYTES(text) (const uint8_t *)(text), sizeof(text) - 1
 
 /* Six settings are set, two blocks of an unknown command refused (the first at place 3), the time is read. */
 static const char every_setting[] = "\0\0\0\0\0\001Z00"
@@ -56,7 +45,7 @@ static void runs(void)
     IS(a.tally.done, 7);
     IS(a.tally.refused, 2);
     IS(a.tally.place, 3);
-    IS(a.tally.first, PAGOZKIN_BLOCK_UNKNOWN);
+    IS(a.tally.reason, PAGOZKIN_BLOCK_UNKNOWN);
     IS(a.tally.length, 37);
     IS(a.settings.hour, 12);
     IS(a.settings.minute, 34);
@@ -108,7 +97,7 @@ static void reads(void)
     IS(p.length, 21);
     IS(p.header, 2);
     IS(p.body, 5);
-    pagozkin_block b = pagozkin_step(room, p.length, p.body);
+    pagozkin_block_places b = pagozkin_step(room, p.length, p.body);
     IS(b.kind, PAGOZKIN_MORE);
     IS(b.command, 'A');
     IS(b.right, 0);
@@ -128,6 +117,32 @@ static void reads(void)
     p = pagozkin_read(BYTES("_0a"), room);
     IS(p.number, PAGOZKIN_BAD_PRINTABLE);
     IS(p.length, 0);
+}
+
+/* A read of the frame answers the number, and leaves these bytes at the start of the room, the rest of it as it was. */
+static void leaves(uint8_t number, const uint8_t *frame, size_t length, const uint8_t *left, size_t left_length)
+{
+    memset(room, 0xA5, sizeof room);
+    is("a read", pagozkin_read(frame, length, room).number, number);
+    is("what it leaves in the room", (size_t)memcmp(room, left, left_length), 0);
+    for (size_t i = left_length; i < sizeof room; i++)
+        is("a byte of the room behind that", room[i], 0xA5);
+}
+
+static void rooms(void)
+{
+    static uint8_t longer[PAGOZKIN_MOST_TRANSLATED + 1 + 2];
+    memset(longer, 'A', sizeof longer);
+    memcpy(longer, "_41", 3);
+
+    leaves(PAGOZKIN_DONE, BYTES("_01Z00_02AA_04"), BYTES("\001Z00\002AA\004"));
+    leaves(PAGOZKIN_WRONG_LEAD, BYTES("_41A"), BYTES("AA"));
+    leaves(PAGOZKIN_BAD_HEADER, BYTES("_01Q00_02AA_04"), BYTES("\001Q00\002AA\004"));
+    leaves(PAGOZKIN_BAD_BODY, BYTES("_01Z00_02AA"), BYTES("\001Z00\002AA"));
+    leaves(PAGOZKIN_READ_NOT_LAST, BYTES("_01Z00_02BA_03_02AA_04"), BYTES("\001Z00\002BA\003\002AA\004"));
+    leaves(PAGOZKIN_BAD_PRINTABLE, BYTES("_01Z00_02AA_0a"), BYTES(""));
+    leaves(PAGOZKIN_WRONG_LENGTH, longer, sizeof longer, BYTES(""));
+    leaves(PAGOZKIN_DONE, BYTES("\0\0\0\0\0\001Z00\002AA\004"), BYTES(""));
 }
 
 /* A length of 0 asks nothing of its pointer. */
@@ -152,6 +167,7 @@ int main(void)
     runs();
     writes();
     reads();
+    rooms();
     empties();
     return faults != 0;
 }

@@ -2,7 +2,7 @@
  * A case is a call byte and its arguments: a number is one byte, a string its length in two bytes, most significant first,
  * and its bytes. After each call it looks at the bytes around every buffer and at the stack that the call took; the calls that
  * have no cases of their own are made beside each run, and held to what it answers. A changed byte, more stack than pagozkin.h
- * states, or an answer that does not fit ends the program with a line that says so and with 1. */
+ * states, an answer that does not fit or a case that cannot be read ends the program with a line that says so and with 1. */
 #include "painted.h"
 
 #include <pagozkin.h>
@@ -28,10 +28,10 @@ static pagozkin_written written;
 
 /* what is_sound, read and step answer beside a run */
 static uint8_t sound;
-static uint8_t room[PAGOZKIN_ROOM];
+static string room;
 static pagozkin_places places;
 static size_t at;
-static pagozkin_block block;
+static pagozkin_block_places block;
 
 static uint8_t *bytes(string *s)
 {
@@ -47,14 +47,20 @@ static int read_number(uint8_t *n)
     return byte != EOF;
 }
 
+/* Gives a string its length, and the guards around so many bytes. */
+static void set_length(string *s, size_t length)
+{
+    s->length = length;
+    memset(s->room, GUARD_BYTE, GUARD);
+    memset(bytes(s) + length, GUARD_BYTE, GUARD);
+}
+
 static int read_string(string *s)
 {
     uint8_t high, low;
     if (!read_number(&high) || !read_number(&low))
         return 0;
-    s->length = (size_t)high * 256 + low;
-    memset(s->room, GUARD_BYTE, GUARD);
-    memset(bytes(s) + s->length, GUARD_BYTE, GUARD);
+    set_length(s, (size_t)high * 256 + low);
     return fread(bytes(s), 1, s->length, stdin) == s->length;
 }
 
@@ -136,12 +142,12 @@ static void call_is_sound(void)
 
 static void call_read(void)
 {
-    places = pagozkin_read(bytes(&c), c.length, room);
+    places = pagozkin_read(bytes(&c), c.length, bytes(&room));
 }
 
 static void call_step(void)
 {
-    block = pagozkin_step(places.printable ? room : bytes(&c), places.length, at);
+    block = pagozkin_step(bytes(places.printable ? &room : &c), places.length, at);
 }
 
 static int is_guarded(string *s)
@@ -160,7 +166,7 @@ static int called(void (*call)(void), size_t most)
         printf("stack: %zu bytes\n", used);
         return 0;
     }
-    if (!is_guarded(&a) || !is_guarded(&b) || !is_guarded(&c)) {
+    if (!is_guarded(&a) || !is_guarded(&b) || !is_guarded(&c) || !is_guarded(&room)) {
         puts("a byte outside a buffer has changed");
         return 0;
     }
@@ -218,7 +224,7 @@ static int case_run(void)
         puts("is_sound, read or step do not say what the run says");
         return 1;
     }
-    printf("%u %u %u %u %u %zu ", answer.number, answer.tally.done, answer.tally.refused, answer.tally.place, answer.tally.first,
+    printf("%u %u %u %u %u %zu ", answer.number, answer.tally.done, answer.tally.refused, answer.tally.place, answer.tally.reason,
            answer.tally.length);
     print_settings(answer.settings);
     print_string(&a);
@@ -275,26 +281,19 @@ static int one_case(int call)
     }
 }
 
-/* A string of no bytes, guarded: so that each buffer has its guards before it was ever read. */
-static void empty(string *s)
-{
-    s->length = 0;
-    memset(s->room, GUARD_BYTE, GUARD + GUARD);
-}
-
 int main(void)
 {
-    empty(&a);
-    empty(&b);
-    empty(&c);
+    /* the guards that are looked at before a string was ever read, and those of the room */
+    set_length(&a, 0);
+    set_length(&b, 0);
+    set_length(&c, 0);
+    set_length(&room, PAGOZKIN_ROOM);
     for (int call = getchar(); call != EOF; call = getchar()) {
         int fault = one_case(call);
-        if (fault == 1)
-            return 1;
-        if (fault == 2) {
+        if (fault == 2)
             puts("bad case");
-            return 0;
-        }
+        if (fault != 0)
+            return 1;
         putchar('\n');
     }
     return 0;

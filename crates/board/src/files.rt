@@ -1,13 +1,10 @@
 // Memory "holds 0 to 64 files in order without gaps: an 11-byte record in ASCII, then SIZE bytes of content".
 use crate::Found;
-use octets::hex::hex_value;
-use octets::slices::byte_at;
+use octets::hex::number_at;
 ghost use mathlib.Core.Path.{_≡_};
 ghost use mathlib.Core.Bool.{true};
 ghost use Prim.Native.Nat.{_+_, _≤_};
 ghost use lib.ListN.{length, drop};
-ghost use Rattle.octets.specs.Choice.{_!_};
-ghost use Rattle.octets.specs.Hex.{value};
 ghost use Rattle.board.specs.Files.{sizeOf, filesOf, used, isAt, find};
 ghost use Rattle.board.specs.Soundness.{holdsFiles};
 
@@ -27,31 +24,15 @@ pub const SIZE: usize = 3;
 
 pub const CODES: usize = 7;
 
-// "four upper-case hex digits"
-const BASE: usize = 16;
-
-// The value of the hex digit at a place.
-fn digit_at(m: &[u8], at: usize) -> usize
-    ensures { λ r. ⌜ r ≡ value (now (m .entry) ! at) ⌝ }
-    ensures { λ r. ⌜ r ≤ 16 ⌝ }
-{
-    hex_value(byte_at(m, at)) as usize
-}
-
 // The SIZE of the record at a place.
 pub fn size_at(m: &[u8], at: usize) -> usize
     requires { ⌜ at ≤ length (now m) ⌝ }
     ensures { λ r. ⌜ r ≡ sizeOf (drop at (now (m .entry))) ⌝ }
 {
-    let from = at + SIZE;
-    let a = digit_at(m, from);
-    let b = digit_at(m, from + 1);
-    let c = digit_at(m, from + 2);
-    let d = digit_at(m, from + 3);
-    ((a * BASE + b) * BASE + c) * BASE + d
+    number_at(m, at + SIZE)
 }
 
-// The bytes that the file at a place takes: "sizes plus 11 for each".
+// The bytes that the file at a place takes: "Sizes plus 11 for each".
 pub fn file_length(m: &[u8], at: usize) -> usize
     requires { ⌜ at ≤ length (now m) ⌝ }
     ensures { λ r. ⌜ r ≡ 11 + sizeOf (drop at (now (m .entry))) ⌝ }

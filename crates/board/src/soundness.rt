@@ -8,6 +8,7 @@ use crate::files::STRING;
 use crate::files::TEXT;
 use crate::files::file_length;
 use crate::files::size_at;
+use crate::labels::labels_distinct;
 use crate::setting::in_range;
 use octets::bytes::ANY;
 use octets::bytes::FIRST_PRINTABLE;
@@ -16,17 +17,18 @@ use octets::bytes::NUL;
 use octets::bytes::ZERO;
 use octets::hex::Four;
 use octets::hex::Two;
+use octets::hex::are_zeros;
 use octets::hex::four_at;
 use octets::hex::two_at;
 use octets::slices::equal_run;
 use octets::slices::plain_run;
 ghost use mathlib.Core.Path.{_≡_};
-ghost use mathlib.Core.Bool.{true, _&&_, _||_};
+ghost use mathlib.Core.Bool.{_&&_, _||_};
 ghost use Prim.Native.Nat.{_+_, _≤_};
 ghost use lib.ListN.{length, drop};
-ghost use Rattle.octets.specs.Choice.{if_then_else_, _is_, _≤?_, between, all, among};
-ghost use Rattle.octets.specs.Bytes.{ZERO, isNul};
-ghost use Rattle.board.specs.Files.{STRING, filesOf, labels, distinct};
+ghost use Rattle.octets.specs.Choice.{if_then_else_, _is_, _≤?_, between, all};
+ghost use Rattle.octets.specs.Bytes.{isNul};
+ghost use Rattle.board.specs.Files.{STRING};
 ghost use Rattle.board.specs.Soundness.{isLabel, isKind, isProtection, isSize, isStartCode, isStopCode, isCodes, isRecord, isContent, isFileAt, holdsFiles, isMemory, soundMemory, sound};
 
 // "P: "U" or "L""
@@ -125,14 +127,7 @@ fn is_stop_code(m: &[u8], at: usize) -> bool
     }
 }
 
-// "00"
-fn are_zeros(a: u8, b: u8) -> bool
-    ensures { λ r. ⌜ r ≡ (a is ZERO && b is ZERO) ⌝ }
-{
-    a == ZERO && b == ZERO
-}
-
-// "QQQQ: for TEXT a start code and a stop code; for STRING "0000"."
+// "QQQQ: for TEXT a start code .. and a stop code 00 to 8F; for STRING "0000"."
 fn is_codes(m: &[u8], at: usize) -> bool
     requires { ⌜ at + 11 ≤ length (now m) ⌝ }
     ensures { λ r. ⌜ r ≡ isCodes (drop at (now (m .entry))) ⌝ }
@@ -207,43 +202,6 @@ fn holds_files(m: &[u8], n: usize) -> bool
     all_nul(&m[at..])
 }
 
-// Whether a label is among those of n files from a place on.
-fn label_among(m: &[u8], from: usize, n: usize, label: u8) -> bool
-    requires { ⌜ from ≤ length (now m) ⌝ }
-    requires { ⌜ holdsFiles n (drop from (now m)) ≡ true ⌝ }
-    ensures { λ r. ⌜ r ≡ among label (labels (filesOf n (drop from (now (m .entry))))) ⌝ }
-{
-    let mut at = from;
-    let mut left = n;
-    while 0 < left {
-        if m[at] == label {
-            return true;
-        }
-        at += file_length(m, at);
-        left -= 1;
-    }
-    false
-}
-
-// "Labels are distinct.": each is looked for in the files behind its own.
-fn labels_distinct(m: &[u8], n: usize) -> bool
-    requires { ⌜ holdsFiles n (now m) ≡ true ⌝ }
-    ensures { λ r. ⌜ r ≡ distinct (labels (filesOf n (now (m .entry)))) ⌝ }
-{
-    let mut at: usize = 0;
-    let mut left = n;
-    while 0 < left {
-        let label = m[at];
-        let next = at + file_length(m, at);
-        if label_among(m, next, left - 1, label) {
-            return false;
-        }
-        at = next;
-        left -= 1;
-    }
-    true
-}
-
 // "Memory is 64 to 32,768 bytes."
 pub fn is_memory(length: usize) -> bool
     ensures { λ r. ⌜ r ≡ isMemory length ⌝ }
@@ -264,7 +222,7 @@ fn sound_memory(m: &[u8], n: u8) -> bool
     if !holds_files(m, n as usize) {
         return false;
     }
-    labels_distinct(m, n as usize)
+    labels_distinct(m, n as usize, true)
 }
 
 // Soundness of a board, whatever its settings and its memory are.

@@ -18,11 +18,18 @@ use Rattle.octets.proofs.Tests.{choice, and-left}
 use Rattle.body.specs.Sum.{checksum}
 use Rattle.body.specs.Body.{block, Step, stray, more, last, badBody, body}
 use Rattle.body.specs.Body.{isEnd, follow, afterEtx, afterData, blockAt, prepend, onward, blocks}
-use Rattle.body.specs.Steps.{part, placed, foundAt, stepView}
+use Rattle.body.specs.Steps.{placed, foundAt}
+use Rattle.body.specs.Walking.{part}
 use Rattle.body.specs.declared.BlockStep.{BlockStep}
 use Rattle.body.specs.declared.BlockStep.the-variants.{Stray, More, Last}
 
 -- ---- places
+
+-- what was found at a place of s, read back without places
+unfoldable pub stepView : List ℕ → BlockStep → Step
+stepView s Stray = stray
+stepView s (More c i j r n) = more (block c (part i j s) r) (drop n s)
+stepView s (Last c i j r) = last (block c (part i j s) r)
 
 -- a block's data, from place i up to place j, and a next block at place n
 pub record MoreIn (s : List ℕ) (i j n : ℕ) : Type 0 where

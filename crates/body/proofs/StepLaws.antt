@@ -22,7 +22,9 @@ use Rattle.octets.proofs.Scans.{plain, not-plain}
 use Rattle.octets.proofs.Told.{four-none, four-some}
 use Rattle.body.specs.Sum.{checksum}
 use Rattle.body.specs.Body.{block, isEnd, follow, afterEtx, afterData, blockAt}
-use Rattle.body.specs.Steps.{part, Inside, placed, foundAt}
+use Rattle.body.specs.Steps.{placed, foundAt}
+use Rattle.body.specs.Walking.{part, Inside}
+use Rattle.body.specs.Readers.{placeBehind, placeAfter}
 use Rattle.body.specs.declared.BlockStep.{BlockStep}
 use Rattle.body.specs.declared.BlockStep.the-variants.{Stray, More, Last}
 
@@ -160,3 +162,11 @@ module _ (s : List ℕ) (at x : ℕ) (e : x ≡ s ! at) where
         rw (head-at, ← e, h, get-at, ← f, plain c k, drop-drop, ← a, ← b) q
 
 pub ruleset finding = (stx-fits, command-fits, found-in, found-no-stx, found-no-command, found-block, needs)
+
+-- ---- the reader
+
+-- the place where the next block starts, as a step tells it, is the one at which a reader is left:
+-- so who goes on there, by a step from a place, goes on as the reader does
+pub next-left : (s : List ℕ) (at : ℕ) {c i j : ℕ} {r : Bool} {n : ℕ} → foundAt s at ≡ More c i j r n → n ≡ placeAfter s at
+unfolding placeAfter placeBehind
+next-left s at e = rw e

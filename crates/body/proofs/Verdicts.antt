@@ -9,7 +9,8 @@ use borrow.Author.Tests.{ne-eqb}
 use lib.ListN.{drop}
 use Rattle.octets.specs.Bytes.{B, F, H, J, N, BLOCKS}
 use Rattle.body.specs.Body.{Block, Body, badBody, body, prepend, blocks, isRead, readNotLast}
-use Rattle.body.specs.Steps.{foundAt, lastNumber, verdict}
+use Rattle.body.specs.Steps.{foundAt}
+use Rattle.body.specs.Walking.{lastNumber, verdict}
 use Rattle.body.specs.declared.BlockStep.{BlockStep}
 use Rattle.body.specs.declared.BlockStep.the-variants.{Stray, More, Last}
 use Rattle.body.proofs.BlockLoops.{blocks-stray, blocks-last, blocks-more, blocks-none}

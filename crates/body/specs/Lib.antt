@@ -3,3 +3,4 @@ pub mod Sum
 pub mod Body
 pub mod Steps
 pub mod Readers
+pub mod Walking

@@ -1,6 +1,6 @@
 // Whether the bytes from a place on are a good body: 7, 8 or neither.
 use crate::BlockStep;
-use crate::steps::block_at;
+use crate::reader::step_from;
 use octets::bytes::B;
 use octets::bytes::BLOCKS;
 use octets::bytes::F;
@@ -12,7 +12,7 @@ ghost use mathlib.Core.Bool.{_||_};
 ghost use lib.ListN.{drop};
 ghost use Rattle.octets.specs.Bytes.{BLOCKS};
 ghost use Rattle.body.specs.Body.{blocks, isRead};
-ghost use Rattle.body.specs.Steps.{lastNumber, verdict};
+ghost use Rattle.body.specs.Walking.{lastNumber, verdict};
 
 // "bad body"
 pub const BAD_BODY: u8 = 7;
@@ -51,7 +51,7 @@ pub fn judge(s: &[u8], from: usize) -> u8
     let mut read = false;
     let mut early = false;
     while 0 < left {
-        match block_at(s, at) {
+        match step_from(s, at) {
             BlockStep::Stray => return BAD_BODY,
             BlockStep::Last {
                 command: _,

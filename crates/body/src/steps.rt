@@ -16,7 +16,8 @@ ghost use lib.ListN.{drop};
 ghost use Rattle.octets.specs.Choice.{_is_};
 ghost use Rattle.octets.specs.Bytes.{STX, EOT};
 ghost use Rattle.body.specs.Body.{block, isEnd, follow, afterEtx, afterData};
-ghost use Rattle.body.specs.Steps.{part, Inside, placed, foundAt};
+ghost use Rattle.body.specs.Steps.{placed, foundAt};
+ghost use Rattle.body.specs.Walking.{part, Inside};
 
 // "EOT as the very last byte"
 fn is_end(s: &[u8], at: usize) -> bool

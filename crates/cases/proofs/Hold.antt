@@ -3,11 +3,11 @@ use mathlib.Core.Path.{_≡_, refl}
 use mathlib.Core.Bool.{true}
 use Rattle.sheet.specs.Sheet.{bytes, start, inTurn, onFresh}
 use Rattle.sheet.proofs.Computing.{base}
-use Rattle.cases.specs.Numbers.{numberOf, holds, allHold, times, numbersTable}
+use Rattle.cases.specs.Numbers.{numberOf, blockNumber, holds, allHold, times, numbersTable}
 use Rattle.cases.specs.Witnesses.{AllShow, witnesses}
 
 pub numbers : allHold numbersTable ≡ true
-unfolding numberOf holds allHold times numbersTable bytes start inTurn onFresh base
+unfolding numberOf blockNumber holds allHold times numbersTable bytes start inTurn onFresh base
 numbers = refl
 
 pub shown : AllShow witnesses

@@ -1,9 +1,10 @@
--- "The numbers that come back": for each, a call that answers it and a neighbour, one step away, that answers 0.
+-- "The numbers that come back": for each, a call that answers it and a neighbour, one step away, that answers 0;
+-- where the number concerns one block, a neighbour whose frame runs, of which a block is done and none refused.
 use Prim.Native.Nat.{ℕ, zero, suc, _+_}
-use mathlib.Core.Bool.{Bool, true, _&&_}
+use mathlib.Core.Bool.{Bool, true, _&&_, _||_}
 use mathlib.Core.List.{List, [], _∷_, _++_}
 use lib.ListN.{replicate}
-use Rattle.octets.specs.Choice.{_is_}
+use Rattle.octets.specs.Choice.{if_then_else_, _is_, _isn't_, _≤?_}
 use Rattle.octets.specs.Buffer.{zeros}
 use Rattle.board.specs.Settings.{settings}
 use Rattle.board.specs.declared.Settings.{Settings}
@@ -12,23 +13,28 @@ use Rattle.writing.specs.Reforming.{reform}
 use Rattle.writing.specs.Joining.{join}
 use Rattle.sign.specs.Run.{run}
 use Rattle.sign.specs.Fresh.{fresh}
+use Rattle.sign.specs.declared.Answer.{Answer}
 use Rattle.sheet.specs.Sheet.{bytes, start, inTurn}
 
 -- a call; buffers and fresh memory are given by their lengths and start as zeros
 pub data Call : Type 0 where
-  making : ℕ → ℕ → Call  -- own type, memory
+  freshBoard : ℕ → ℕ → Call  -- own type, memory
   frames : ℕ → List (List ℕ) → Call  -- memory of a fresh board of type "C", frames: the last one's number
-  blocks : ℕ → List (List ℕ) → Call  -- the same: the number of the last one's first refused block
+  refusing : ℕ → List (List ℕ) → Call  -- the same: the number of the last one's first refused block, 0 where one is done and none refused
   running : Settings → List ℕ → ℕ → List ℕ → Call  -- settings, memory, reply buffer, frame
   writing : ℕ → List ℕ → ℕ → List ℕ → ℕ → Call  -- form, header, command, data, output buffer
   reforming : ℕ → List ℕ → ℕ → Call  -- form, frame, output buffer
   joining : ℕ → List ℕ → List ℕ → ℕ → Call  -- form, first frame, second frame, output buffer
 
+-- of a frame that ran: the number of its first refused block, or 0 where none is refused and one is done; else no number that comes back
+unfoldable pub blockNumber : Answer → ℕ
+blockNumber a = if a .number is 0 && (a .tally .reason isn't 0 || 1 ≤? a .tally .done) then a .tally .reason else 99
+
 -- the number that it answers
 unfoldable pub numberOf : Call → ℕ
-numberOf (making t n) = fresh t (zeros n) .answer .number
+numberOf (freshBoard t n) = fresh t (zeros n) .answer .number
 numberOf (frames n fs) = inTurn (start n) fs .answer .number
-numberOf (blocks n fs) = inTurn (start n) fs .answer .tally .first
+numberOf (refusing n fs) = blockNumber (inTurn (start n) fs .answer)
 numberOf (running s m o f) = run s m (zeros o) f .answer .number
 numberOf (writing k h c d o) = write k h c d (zeros o) .answer .number
 numberOf (reforming k f o) = reform k f (zeros o) .answer .number
@@ -120,9 +126,9 @@ numbersTable =
     ∷ row 9 (frames 64 (bytes "_01Z01_02E'S_04" ∷ [])) (frames 64 (bytes "_01Z01,Z00_02E'S_04" ∷ []))
     ∷ row 9 (frames 64 (bytes "_01000_02E'S_04" ∷ [])) (frames 64 (bytes "_01C00_02E'S_04" ∷ []))
     -- 10, 11 "fresh board: wrong type; wrong memory length"
-    ∷ row 10 (making 0x7A 64) (making 0x75 64)
-    ∷ row 11 (making 0x43 63) (making 0x43 64)
-    ∷ row 11 (making 0x43 32769) (making 0x43 32768)
+    ∷ row 10 (freshBoard 0x7A 64) (freshBoard 0x75 64)
+    ∷ row 11 (freshBoard 0x43 63) (freshBoard 0x43 64)
+    ∷ row 11 (freshBoard 0x43 32769) (freshBoard 0x43 32768)
     -- 12, 13 "join: header texts differ; first frame has a read"
     ∷ row 12 (joining 1 E'S (bytes "_01Z01_02E'S_04") 24) (joining 1 E'S E'S 24)
     ∷ row 13 (joining 1 (bytes "_01Z00_02F!_04") E'S 24) (joining 1 E'S (bytes "_01Z00_02F!_04") 24)
@@ -141,22 +147,22 @@ numbersTable =
     ∷ row 18 (joining 1 (many 32) (many 33) 512) (joining 1 (many 32) (many 32) 512)
     ∷ row 18 (writing 1 (bytes "Z00") 0x41 (replicate 8181 0x20) 9000) (writing 1 (bytes "Z00") 0x41 (replicate 8180 0x20) 9000)
     -- 20 "block: wrong checksum"
-    ∷ row 20 (blocks 64 (bytes "_01Z00_02E'S_0300C5_04" ∷ [])) (blocks 64 (bytes "_01Z00_02E'S_0300C4_04" ∷ []))
+    ∷ row 20 (refusing 64 (bytes "_01Z00_02E'S_0300C5_04" ∷ [])) (refusing 64 (bytes "_01Z00_02E'S_0300C4_04" ∷ []))
     -- 21 "unknown command byte or function label"
-    ∷ row 21 (blocks 64 (bytes "_01Z00_02D'S_04" ∷ [])) (blocks 64 (E'S ∷ []))
-    ∷ row 21 (blocks 64 (bytes "_01Z00_02F7_04" ∷ [])) (blocks 64 (bytes "_01Z00_02F;_04" ∷ []))
+    ∷ row 21 (refusing 64 (bytes "_01Z00_02D'S_04" ∷ [])) (refusing 64 (E'S ∷ []))
+    ∷ row 21 (refusing 64 (bytes "_01Z00_02F7_04" ∷ [])) (refusing 64 (bytes "_01Z00_02F;_04" ∷ []))
     -- 22 "data missing, in excess, or malformed"
-    ∷ row 22 (blocks 64 (bytes "_01Z00_02E 2400_04" ∷ [])) (blocks 64 (bytes "_01Z00_02E 2359_04" ∷ []))
-    ∷ row 22 (blocks 64 (bytes "_01Z00_02E;130100_04" ∷ [])) (blocks 64 (bytes "_01Z00_02E;120100_04" ∷ []))
-    ∷ row 22 (blocks 64 (bytes "_01Z00_02E!F0_04" ∷ [])) (blocks 64 (bytes "_01Z00_02E!FF_04" ∷ []))
-    ∷ row 22 (blocks 64 (bytes "_01Z00_02F!0_04" ∷ [])) (blocks 64 (bytes "_01Z00_02F!_04" ∷ []))
+    ∷ row 22 (refusing 64 (bytes "_01Z00_02E 2400_04" ∷ [])) (refusing 64 (bytes "_01Z00_02E 2359_04" ∷ []))
+    ∷ row 22 (refusing 64 (bytes "_01Z00_02E;130100_04" ∷ [])) (refusing 64 (bytes "_01Z00_02E;120100_04" ∷ []))
+    ∷ row 22 (refusing 64 (bytes "_01Z00_02E!F0_04" ∷ [])) (refusing 64 (bytes "_01Z00_02E!FF_04" ∷ []))
+    ∷ row 22 (refusing 64 (bytes "_01Z00_02F!0_04" ∷ [])) (refusing 64 (bytes "_01Z00_02F!_04" ∷ []))
     -- 23 "no file of that label and type"
-    ∷ row 23 (blocks 64 (bytes "_01Z00_02E$AAU0005FF00_03_02GAHELLO_04" ∷ [])) (blocks 64 (bytes "_01Z00_02E$AAU0005FF00_03_02AAHELLO_04" ∷ []))
+    ∷ row 23 (refusing 64 (bytes "_01Z00_02E$AAU0005FF00_03_02GAHELLO_04" ∷ [])) (refusing 64 (bytes "_01Z00_02E$AAU0005FF00_03_02AAHELLO_04" ∷ []))
     -- 24 "message longer than SIZE"
-    ∷ row 24 (blocks 64 (bytes "_01Z00_02E$AAU0005FF00_03_02AAHELLO!_04" ∷ [])) (blocks 64 (bytes "_01Z00_02E$AAU0005FF00_03_02AAHELLO_04" ∷ []))
+    ∷ row 24 (refusing 64 (bytes "_01Z00_02E$AAU0005FF00_03_02AAHELLO!_04" ∷ [])) (refusing 64 (bytes "_01Z00_02E$AAU0005FF00_03_02AAHELLO_04" ∷ []))
     -- 25, 26, 27 ""$": bad record, count or length; label twice; no room"
-    ∷ row 25 (blocks 64 (bytes "_01Z00_02E$0AU0005FF00_04" ∷ [])) (blocks 64 (bytes "_01Z00_02E$1AU0005FF00_04" ∷ []))
-    ∷ row 25 (blocks 64 (bytes "_01Z00_02E$SBL007E0000_04" ∷ [])) (blocks 512 (bytes "_01Z00_02E$SBL007D0000_04" ∷ []))
-    ∷ row 26 (blocks 64 (bytes "_01Z00_02E$AAU0005FF00ABU00050000_04" ∷ [])) (blocks 64 (bytes "_01Z00_02E$AAU0005FF00BBU00050000_04" ∷ []))
-    ∷ row 27 (blocks 64 (bytes "_01Z00_02E$AAU0036FF00_04" ∷ [])) (blocks 64 (bytes "_01Z00_02E$AAU0035FF00_04" ∷ []))
+    ∷ row 25 (refusing 64 (bytes "_01Z00_02E$0AU0005FF00_04" ∷ [])) (refusing 64 (bytes "_01Z00_02E$1AU0005FF00_04" ∷ []))
+    ∷ row 25 (refusing 64 (bytes "_01Z00_02E$SBL007E0000_04" ∷ [])) (refusing 512 (bytes "_01Z00_02E$SBL007D0000_04" ∷ []))
+    ∷ row 26 (refusing 64 (bytes "_01Z00_02E$AAU0005FF00ABU00050000_04" ∷ [])) (refusing 64 (bytes "_01Z00_02E$AAU0005FF00BBU00050000_04" ∷ []))
+    ∷ row 27 (refusing 64 (bytes "_01Z00_02E$AAU0036FF00_04" ∷ [])) (refusing 64 (bytes "_01Z00_02E$AAU0035FF00_04" ∷ []))
     ∷ []

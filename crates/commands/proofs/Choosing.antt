@@ -39,7 +39,7 @@ does-tells : (s : Settings) (m out : List ℕ) (e : Effect) (r : Done) (after : 
 does-tells s m out e r after t =
     record {
       number = t .number;
-      settings = t .settings ∙ ap (λ (b : Board). b .set) (sym (t .same));
+      settings = t .settings ∙ ap (λ (b : Board). b .settings) (sym (t .same));
       stored = ap (λ (b : Board). b .memory) (sym (t .same));
       replied = t .stored;
       long = t .long;

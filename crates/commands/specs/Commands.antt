@@ -13,7 +13,7 @@ use Rattle.board.specs.declared.Found.the-variants.{At, Nothing}
 
 -- the content of a file of the board
 abbrev pub findOn : Board → ℕ → ℕ → Found
-findOn b label kind = find label kind (filesOf (b .set .files) (b .memory)) 0
+findOn b label kind = find label kind (filesOf (b .settings .files) (b .memory)) 0
 
 -- "holds the message, zeros after it"
 unfoldable pub holding : List ℕ → ℕ → ℕ → List ℕ → List ℕ
@@ -24,7 +24,7 @@ unfoldable pub putMessage : Board → Found → List ℕ → Effect
 putMessage b Nothing message = refuse 23 b
 putMessage b (At start size) message =
     if size <? length message then refuse 24 b
-    else done (board (b .set) (holding (b .memory) start size message))
+    else done (board (b .settings) (holding (b .memory) start size message))
 
 -- "A, G: label and message, which may be empty." 22 "data missing"
 unfoldable pub writeFile : ℕ → Board → List ℕ → Effect

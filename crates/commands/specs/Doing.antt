@@ -1,4 +1,4 @@
--- What the inner functions need and leave: for their contracts only.
+-- For contracts of inner functions only: what a block needs and leaves.
 use Prim.Native.Nat.{ℕ, _+_, _≤_}
 use mathlib.Core.Path.{_≡_}
 use mathlib.Core.List.{List}
@@ -15,7 +15,7 @@ pub record Room (m : List ℕ) (start size : ℕ) (message : List ℕ) : Type 0 
 -- a block: its number, settings, memory, reply buffer and the reply's length
 pub record Does (out : List ℕ) (e : Effect) (r : Done) (memory after : List ℕ) : Type 0 where
   pub number : r .number ≡ e .number
-  pub settings : r .settings ≡ e .after .set
+  pub settings : r .settings ≡ e .after .settings
   pub stored : memory ≡ e .after .memory
   pub replied : after ≡ overlay out (e .reply)
   pub long : r .length ≡ length (e .reply)

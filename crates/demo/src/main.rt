@@ -33,7 +33,7 @@ fn print_answer(r: Answer) {
     text(b"first ");
     number(tally.place);
     text(b" ");
-    number(tally.first);
+    number(tally.reason);
     text(b"\n");
 }
 

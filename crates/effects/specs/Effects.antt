@@ -5,12 +5,12 @@ use Rattle.board.specs.declared.Settings.{Settings}
 
 -- a board is settings and memory
 pub record Board : Type 0 where
-  pub set : Settings
+  pub settings : Settings
   pub memory : List ℕ
 
 -- such a board
 abbrev pub board : Settings → List ℕ → Board
-board s m = record { set = s; memory = m }
+board s m = record { settings = s; memory = m }
 
 -- the number of a command, 0 or 20 to 27, the board after it, and its reply, empty where there is none
 pub record Effect : Type 0 where

@@ -1,4 +1,4 @@
--- What the inner functions need, answer and leave: for their contracts only.
+-- For contracts of inner functions only: what they need, answer and leave.
 use Prim.Native.Nat.{ℕ, _+_, _≤_}
 use mathlib.Core.Path.{_≡_}
 use mathlib.Core.Bool.{true}
@@ -18,11 +18,11 @@ abbrev pub doneAs : ℕ → Settings → ℕ → Done
 doneAs n s k = record { number = n; settings = s; length = k }
 
 -- a reply, before its data and behind them
-unfoldable pub leadOf : ℕ → ℕ → List ℕ
-leadOf code label = zeros 20 ++ (SOH ∷ ZERO ∷ ZERO ∷ ZERO ∷ STX ∷ code ∷ label ∷ [])
+unfoldable pub replyLead : ℕ → ℕ → List ℕ
+replyLead code label = zeros 20 ++ (SOH ∷ ZERO ∷ ZERO ∷ ZERO ∷ STX ∷ code ∷ label ∷ [])
 
-unfoldable pub tailOf : ℕ → List ℕ
-tailOf sum = ETX ∷ inHex4 sum ++ (EOT ∷ [])
+unfoldable pub replyTail : ℕ → List ℕ
+replyTail sum = ETX ∷ inHex4 sum ++ (EOT ∷ [])
 
 -- a reply stands at the start of the buffer, and its length is answered
 pub record Replied (out : List ℕ) (code label : ℕ) (d after : List ℕ) (n : ℕ) : Type 0 where
@@ -37,7 +37,7 @@ pub record Told (out d after : List ℕ) (n : ℕ) : Type 0 where
 -- a command that gives no reply: its number, the settings and memory after it
 pub record Acts (e : Effect) (r : Done) (memory : List ℕ) : Type 0 where
   pub number : r .number ≡ e .number
-  pub settings : r .settings ≡ e .after .set
+  pub settings : r .settings ≡ e .after .settings
   pub stored : memory ≡ e .after .memory
   pub quiet : e .reply ≡ []
   pub length : r .length ≡ 0
@@ -46,7 +46,7 @@ pub record Acts (e : Effect) (r : Done) (memory : List ℕ) : Type 0 where
 pub record Tells (b : Board) (out : List ℕ) (e : Effect) (r : Done) (after : List ℕ) : Type 0 where
   pub number : r .number ≡ e .number
   pub same : e .after ≡ b
-  pub settings : r .settings ≡ b .set
+  pub settings : r .settings ≡ b .settings
   pub stored : after ≡ overlay out (e .reply)
   pub long : r .length ≡ length (e .reply)
 

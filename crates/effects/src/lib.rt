@@ -1,9 +1,11 @@
 // What a command leaves: a number, the board after it, and its reply. The definitions are in specs/.
 use board::Settings;
 
-pub mod effects;
+mod effects;
 pub mod numbers;
 pub mod reply;
+
+pub use crate::effects::quiet;
 
 // What a block answers: its number, 0 or 20 to 27, the settings after it, and the length of its reply, 0 where there is none.
 pub struct Done {

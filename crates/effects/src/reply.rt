@@ -13,7 +13,7 @@ ghost use mathlib.Core.Path.{_≡_};
 ghost use Prim.Native.Nat.{_+_, _≤_};
 ghost use lib.ListN.{length, take, drop};
 ghost use Rattle.octets.specs.Buffer.{splice, overlay};
-ghost use Rattle.effects.specs.Leaving.{leadOf, tailOf, Replied};
+ghost use Rattle.effects.specs.Leaving.{replyLead, replyTail, Replied};
 
 // "20 NUL"
 const NULS: usize = 20;
@@ -29,7 +29,7 @@ const TAIL: usize = 6;
 // What stands before the data: "20 NUL, SOH, "000", STX, the write code (A, G or E), label".
 fn put_lead(out: &mut [u8], code: u8, label: u8)
     requires { ⌜ 27 ≤ length (now out) ⌝ }
-    ensures { λ r. ⌜ now (out .exit) ≡ overlay (now (out .entry)) (leadOf code label) ⌝ }
+    ensures { λ r. ⌜ now (out .exit) ≡ overlay (now (out .entry)) (replyLead code label) ⌝ }
 {
     zero_at(out, 0, NULS);
     let head = [SOH, ZERO, ZERO, ZERO, STX, code, label];
@@ -39,7 +39,7 @@ fn put_lead(out: &mut [u8], code: u8, label: u8)
 // What stands behind them, from a place on: "ETX, checksum, EOT".
 fn put_tail(out: &mut [u8], at: usize, sum: u16)
     requires { ⌜ at + 6 ≤ length (now out) ⌝ }
-    ensures { λ r. ⌜ now (out .exit) ≡ splice (now (out .entry)) at (tailOf sum) ⌝ }
+    ensures { λ r. ⌜ now (out .exit) ≡ splice (now (out .entry)) at (replyTail sum) ⌝ }
 {
     put_at(out, at, ETX);
     put_four(out, at + 1, sum);

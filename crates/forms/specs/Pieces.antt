@@ -1,4 +1,4 @@
--- A form as it is put together piece by piece: for the contracts of the inner functions only.
+-- For contracts of inner functions only: a form as it is put together piece by piece.
 use Prim.Native.Nat.{ℕ, _+_, _/_, _%_}
 use mathlib.Core.Path.{_≡_}
 use mathlib.Core.Bool.{Bool, true, false}

@@ -1,2 +1,7 @@
 // "Three forms we write", byte by byte and block by block. The definitions are in specs/.
-pub mod forms;
+mod forms;
+
+pub use crate::forms::PRINTABLE_FORM;
+pub use crate::forms::put_eot;
+pub use crate::forms::put_heading;
+pub use crate::forms::put_piece;

@@ -1,5 +1,5 @@
 -- Re-forming changes no reading, so that what is done with a frame can as well be done with another form of it.
-use mathlib.Core.Path.{_≡_, refl, sym, ap, _∙_}
+use mathlib.Core.Path.{_≡_, refl, sym, _∙_}
 use mathlib.Core.Bool.{true}
 use mathlib.Core.List.{List}
 use Prim.Native.Nat.{ℕ}
@@ -7,7 +7,8 @@ use Rattle.octets.specs.Choice.{isByte, all}
 use Rattle.reading.specs.Reading.{read}
 use Rattle.writing.specs.Reforming.{reform}
 use Rattle.writing.specs.Joining.{join}
-use Rattle.frame.proofs.Delivered.{resultOf, reform-reads, reform-buffers}
+use Rattle.frame.specs.Results.{resultOf}
+use Rattle.frame.proofs.Delivered.{reform-reads}
 
 -- re-forming depends on what its input reads as
 pub reform-same : (k : ℕ) (s t o : List ℕ) → read s ≡ read t → reform k s o ≡ reform k t o
@@ -28,13 +29,6 @@ module _ (j : ℕ) (s o : List ℕ) (a : all isByte s ≡ true) (z : reform j s 
   -- to re-form it is to re-form the frame
   pub reform-reform : (k : ℕ) (o′ : List ℕ) → reform k (resultOf (reform j s o)) o′ ≡ reform k s o′
   reform-reform k o′ = reform-same k (resultOf (reform j s o)) s o′ reform-keeps
-
-  -- the same bytes, whatever the buffers
-  pub reform-again : (k : ℕ) (o₂ o₃ : List ℕ) → reform k (resultOf (reform j s o)) o₂ .answer .number ≡ 0
-      → reform k s o₃ .answer .number ≡ 0
-      → resultOf (reform k (resultOf (reform j s o)) o₂) ≡ resultOf (reform k s o₃)
-  reform-again k o₂ o₃ z₂ z₃ =
-      ap resultOf (reform-reform k o₂) ∙ reform-buffers k s o₂ o₃ (sym (ap (λ x. x .answer .number) (reform-reform k o₂)) ∙ z₂) z₃
 
   -- to join it with a frame behind it is to join the frame
   pub join-reformed-first : (k : ℕ) (g o′ : List ℕ) → join k (resultOf (reform j s o)) g o′ ≡ join k s g o′

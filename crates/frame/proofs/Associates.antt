@@ -10,13 +10,15 @@ use Rattle.octets.proofs.Tests.{or-out-right}
 use Rattle.octets.proofs.Lists.{same-self}
 use Rattle.body.specs.Body.{Block, hasRead}
 use Rattle.reading.specs.Reading.{frame, read}
+use Rattle.reading.proofs.FrameLaws.{read-plain}
 use Rattle.writing.specs.Output.{isOver}
 use Rattle.writing.specs.Reforming.{checked}
 use Rattle.writing.specs.Joining.{putJoined, join}
 use Rattle.frame.proofs.Appending.{hasRead-append}
 use Rattle.frame.proofs.Limits.{over-first, over-second}
 use Rattle.frame.proofs.Succeeds.{checked-right, join-only-if, join-succeeds}
-use Rattle.frame.proofs.Delivered.{resultOf, written-right, join-reads, same-header, same-blocks, join-buffers}
+use Rattle.frame.specs.Results.{resultOf}
+use Rattle.frame.proofs.Delivered.{written-right, join-reads, same-header, same-blocks, join-buffers}
 
 -- the first two joined in a form, and then the third to them
 pub record FromLeft (i k : ℕ) (f g e o o′ : List ℕ) : Type 0 where
@@ -69,11 +71,15 @@ join-associative i j k f g e o₁ o₂ o₃ o₄ a b c l r =
 
 -- ---- where the one succeeds, so does the other
 
+-- what reads has a block
+some-blocks : (s h : List ℕ) (bs : List Block) → read s ≡ frame h bs → 1 ≤ length bs
+some-blocks s h bs e = read-plain s h bs e .blocks .some
+
 join-roomy : (k : ℕ) (f g o o′ : List ℕ) → join k f g o .answer .number ≡ 0 → 24576 ≤ length o′ → join k f g o′ .answer .number ≡ 0
 join-roomy k f g o o′ z r =
     let w = join-only-if k f g o z in
-    join-succeeds k f g o′ (w .header) (w .first) (w .second) (w .form) (w .one) (w .other)
-    (w .one-right) (w .other-right) (w .calm) (w .within) r
+    join-succeeds k f g o′ (w .header) (w .first) (w .second) (w .form) (w .one .reads) (w .other .reads)
+    (w .one .right) (w .other .right) (w .calm) (w .within) r
 
 module _ (k : ℕ) (f g e o₁ o₂ o₃ o₄ : List ℕ) (a : all isByte f ≡ true) (b : all isByte g ≡ true) (c : all isByte e ≡ true) where
   -- joined from the left, then also from the right, in buffers of 24,576 bytes
@@ -86,15 +92,15 @@ module _ (k : ℕ) (f g e o₁ o₂ o₃ o₄ : List ℕ) (a : all isByte f ≡ 
       let bs = x .first in
       let cs = x .second in
       let ds = w .second in
-      let eh : w .header ≡ h = same-header fg (w .header) h (w .first) (bs ++ cs) (w .one) (x .result .reads) in
-      let eb : w .first ≡ bs ++ cs = same-blocks fg (w .header) h (w .first) (bs ++ cs) (w .one) (x .result .reads) in
-      let third : read e ≡ frame h ds = rw eh at (w .other) in
+      let eh : w .header ≡ h = same-header fg (w .header) h (w .first) (bs ++ cs) (w .one .reads) (x .result .reads) in
+      let eb : w .first ≡ bs ++ cs = same-blocks fg (w .header) h (w .first) (bs ++ cs) (w .one .reads) (x .result .reads) in
+      let third : read e ≡ frame h ds = rw eh at (w .other .reads) in
       let v : isOver k h (bs ++ (cs ++ ds)) ≡ false = rw (eh, eb, append-assoc bs cs ds) at (w .within) in
       let n : hasRead cs ≡ false = or-out-right (hasRead bs) (hasRead cs) (rw (eb, hasRead-append bs cs) at (w .calm)) in
-      let some : 1 ≤ length (cs ++ ds) = rw length-append (omega (arith, x .other .whole .blocks .some)) in
+      let some : 1 ≤ length (cs ++ ds) = rw length-append (omega (arith, some-blocks g h cs (x .other .reads))) in
       let z : join k g e o₂ .answer .number ≡ 0 =
-      join-succeeds k g e o₂ h cs ds (w .form) (x .other .reads) third (x .other .right) (w .other-right) n
-      (over-second k bs (cs ++ ds) (x .one .whole .blocks .some) some h v) r₂ in
+      join-succeeds k g e o₂ h cs ds (w .form) (x .other .reads) third (x .other .right) (w .other .right) n
+      (over-second k bs (cs ++ ds) (some-blocks f h bs (x .one .reads)) some h v) r₂ in
       let t = join-turned k k f g e o₁ o₂ a b c (l .inner) z k o₄ in
       record { inner = z; outer = sym (ap (λ y. y .answer .number) t) ∙ join-roomy k fg e o₃ o₄ (l .outer) r₄ }
 
@@ -108,13 +114,13 @@ module _ (k : ℕ) (f g e o₁ o₂ o₃ o₄ : List ℕ) (a : all isByte f ≡ 
       let bs = w .first in
       let cs = y .first in
       let ds = y .second in
-      let eh : w .header ≡ h = same-header ge (w .header) h (w .second) (cs ++ ds) (w .other) (y .result .reads) in
-      let eb : w .second ≡ cs ++ ds = same-blocks ge (w .header) h (w .second) (cs ++ ds) (w .other) (y .result .reads) in
-      let one : read f ≡ frame h bs = rw eh at (w .one) in
+      let eh : w .header ≡ h = same-header ge (w .header) h (w .second) (cs ++ ds) (w .other .reads) (y .result .reads) in
+      let eb : w .second ≡ cs ++ ds = same-blocks ge (w .header) h (w .second) (cs ++ ds) (w .other .reads) (y .result .reads) in
+      let one : read f ≡ frame h bs = rw eh at (w .one .reads) in
       let v : isOver k h (bs ++ cs ++ ds) ≡ false = rw (eh, eb, ← append-assoc bs cs ds) at (w .within) in
-      let some : 1 ≤ length (bs ++ cs) = rw length-append (omega (arith, y .one .whole .blocks .some)) in
+      let some : 1 ≤ length (bs ++ cs) = rw length-append (omega (arith, some-blocks g h cs (y .one .reads))) in
       let z : join k f g o₁ .answer .number ≡ 0 =
-      join-succeeds k f g o₁ h bs cs (w .form) one (y .one .reads) (w .one-right) (y .one .right) (w .calm)
-      (over-first k (bs ++ cs) ds some (y .other .whole .blocks .some) h v) r₁ in
+      join-succeeds k f g o₁ h bs cs (w .form) one (y .one .reads) (w .one .right) (y .one .right) (w .calm)
+      (over-first k (bs ++ cs) ds some (some-blocks e h ds (y .other .reads)) h v) r₁ in
       let t = join-turned k k f g e o₁ o₂ a b c z (r .inner) k o₃ in
       record { inner = z; outer = ap (λ y. y .answer .number) t ∙ join-roomy k f ge o₄ o₃ (r .outer) r₃ }

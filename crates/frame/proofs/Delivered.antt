@@ -4,14 +4,14 @@ use mathlib.Core.Bool.{true, false}
 use mathlib.Core.List.{List, [], _∷_, _++_}
 use Prim.Native.Nat.{ℕ}
 use lib.Dec.{lit≤}
-use lib.ListN.{length, take, drop}
+use lib.ListN.{length, drop}
 use lib.Seq.{take-append-seam}
 use Rattle.octets.specs.Choice.{isByte, all}
 use Rattle.octets.specs.Buffer.{overlay}
 use Rattle.octets.specs.Bytes.{isPlain}
 use Rattle.octets.proofs.Tests.{split}
 use Rattle.header.specs.Header.{isHeader}
-use Rattle.body.specs.Body.{Block, block, readNotLast, hasRead}
+use Rattle.body.specs.Body.{Block, block, readNotLast}
 use Rattle.body.proofs.Taken.{Blocks}
 use Rattle.reading.specs.Reading.{frame, read}
 use Rattle.reading.proofs.FrameLaws.{FrameOf, read-bytes}
@@ -20,6 +20,7 @@ use Rattle.writing.specs.Output.{Output, isOver, delivered}
 use Rattle.writing.specs.Writing.{write}
 use Rattle.writing.specs.Reforming.{allRight, checked, reform}
 use Rattle.writing.specs.Joining.{join}
+use Rattle.frame.specs.Results.{resultOf, Carries, Sure, Joined}
 use Rattle.frame.proofs.FormBytes.{render-bytes}
 use Rattle.frame.proofs.RoundTrip.{righted-right, round-trip}
 use Rattle.frame.proofs.Appending.{blocks-append, right-append, reads-append}
@@ -28,25 +29,13 @@ use Rattle.frame.proofs.Succeeds.{checked-right, write-only-if, write-g
 
 -- ---- a result
 
--- the first bytes of the output, as many as were answered
-abbrev pub resultOf : Output → List ℕ
-resultOf x = take (x .answer .length) (x .out)
-
 -- what is delivered is the result
 pub result-delivered : (s o : List ℕ) → resultOf (delivered s o) ≡ s
 unfolding overlay
 result-delivered s o = take-append-seam s (drop (length s) o)
 
--- the result is a form of a header and blocks within the limits; it is bytes, and reads as these, with right sums
-pub record Holds (k : ℕ) (h : List ℕ) (bs : List Block) (x : Output) : Type 0 where
-  pub bytes : resultOf x ≡ render k h bs
-  pub reads : read (resultOf x) ≡ frame h bs
-  pub right : allRight bs ≡ true
-  pub small : all isByte (resultOf x) ≡ true
-  pub within : isOver k h bs ≡ false
-
 -- so it passes the check of its sums
-pub written-right : (k : ℕ) (h : List ℕ) (bs : List Block) (x : Output) → Holds k h bs x → checked (read (resultOf x)) ≡ frame h bs
+pub written-right : (k : ℕ) (h : List ℕ) (bs : List Block) (x : Output) → Carries k h bs x → checked (read (resultOf x)) ≡ frame h bs
 written-right k h bs x r = checked-right (resultOf x) h bs (r .reads) (r .right)
 
 -- a form that is delivered
@@ -59,7 +48,7 @@ module _ (k : ℕ) (h : List ℕ) (bs : List Block) (o : List ℕ) (n : ℕ) (e 
       record { header = e; blocks = record { plain = g .plain; passing = g .passing; some = g .some; few = w .few }; reads = nl } in
       round-trip k h bs f (w .short) ∙ ap (frame h) (righted-right bs ar)
 
-  put-holds : (x : Output) → x ≡ delivered (render k h bs) o → Holds k h bs x
+  put-holds : (x : Output) → x ≡ delivered (render k h bs) o → Carries k h bs x
   put-holds x d =
       let t : resultOf x ≡ render k h bs = ap resultOf d ∙ result-delivered (render k h bs) o in
       record { bytes = t; reads = ap read t ∙ reads-back; right = ar; small = rw t (render-bytes k h bs e (g .passing)); within = v }
@@ -68,7 +57,7 @@ module _ (k : ℕ) (h : List ℕ) (bs : List Block) (o : List ℕ) (n : ℕ) (e 
 
 -- a one-command frame
 pub write-reads : (k : ℕ) (h : List ℕ) (c : ℕ) (d o : List ℕ) → isByte c ≡ true → all isByte d ≡ true → write k h c d o .answer .number ≡ 0
-    → Holds k h (block c d true ∷ []) (write k h c d o)
+    → Carries k h (block c d true ∷ []) (write k h c d o)
 write-reads k h c d o x y z =
     let w = write-only-if k h c d o z in
     let p = split (isPlain c) (w .plain) in
@@ -83,18 +72,12 @@ write-reads k h c d o x y z =
 
 -- ---- re-forming
 
--- a frame of bytes that reads with right sums
-pub record Sure (s h : List ℕ) (bs : List Block) : Type 0 where
-  pub reads : read s ≡ frame h bs
-  pub right : allRight bs ≡ true
-  pub whole : FrameOf isByte h bs
-
 -- what re-forming leaves, and of what
 pub record Reformed (k : ℕ) (s : List ℕ) (x : Output) : Type 0 where
   pub header : List ℕ
   pub blocks : List Block
   pub given : Sure s header blocks
-  pub result : Holds k header blocks x
+  pub result : Carries k header blocks x
 
 -- a frame in another form reads as the frame
 pub reform-reads : (k : ℕ) (s o : List ℕ) → all isByte s ≡ true → reform k s o .answer .number ≡ 0 → Reformed k s (reform k s o)
@@ -106,21 +89,11 @@ reform-reads k s o a z =
     record {
       header = h;
       blocks = bs;
-      given = record { reads = w .reads; right = w .right; whole = f };
+      given = record { reads = w .reads; right = w .right };
       result = put-holds k h bs o 64 (f .header) (f .blocks) (f .reads) (w .right) (w .within) (reform k s o) (reform-gives k s o w);
     }
 
 -- ---- joining
-
--- what joining leaves, and of what
-pub record Joined (k : ℕ) (f g : List ℕ) (x : Output) : Type 0 where
-  pub header : List ℕ
-  pub first : List Block
-  pub second : List Block
-  pub one : Sure f header first
-  pub other : Sure g header second
-  pub calm : hasRead first ≡ false
-  pub result : Holds k header (first ++ second) x
 
 -- two joined frames read as the common header and the blocks of the one and then of the other
 pub join-reads : (k : ℕ) (f g o : List ℕ) → all isByte f ≡ true → all isByte g ≡ true → join k f g o .answer .number ≡ 0
@@ -130,18 +103,18 @@ join-reads k f g o a b z =
     let h = w .header in
     let bs = w .first in
     let cs = w .second in
-    let p = read-bytes f h bs a (w .one) in
-    let q = read-bytes g h cs b (w .other) in
+    let p = read-bytes f h bs a (w .one .reads) in
+    let q = read-bytes g h cs b (w .other .reads) in
     record {
       header = h;
       first = bs;
       second = cs;
-      one = record { reads = w .one; right = w .one-right; whole = p };
-      other = record { reads = w .other; right = w .other-right; whole = q };
+      one = w .one;
+      other = w .other;
       calm = w .calm;
       result =
           put-holds k h (bs ++ cs) o 128 (p .header) (blocks-append isByte 64 64 bs cs (p .blocks) (q .blocks))
-          (reads-append bs cs (w .calm) ∙ q .reads) (rw (right-append bs cs, w .one-right, w .other-right)) (w .within)
+          (reads-append bs cs (w .calm) ∙ q .reads) (rw (right-append bs cs, w .one .right, w .other .right)) (w .within)
           (join k f g o) (join-gives k f g o w);
     }
 
@@ -157,34 +130,19 @@ module _ (s h h′ : List ℕ) (bs cs : List Block) (p : read s ≡ frame h bs) 
   pub same-blocks : bs ≡ cs
   same-blocks = cc
 
--- the result of re-forming, by what reads
-pub reform-result : (k : ℕ) (s o h : List ℕ) (bs : List Block) → read s ≡ frame h bs → reform k s o .answer .number ≡ 0
-    → resultOf (reform k s o) ≡ render k h bs
-reform-result k s o h bs e z =
-    let w = reform-only-if k s o z in
-    ap resultOf (reform-gives k s o w) ∙ result-delivered (render k (w .header) (w .blocks)) o
-    ∙ ap₂ (render k) (same-header s (w .header) h (w .blocks) bs (w .reads) e) (same-blocks s (w .header) h (w .blocks) bs (w .reads) e)
-
 -- the result of joining, by what reads
 pub join-result : (k : ℕ) (f g o h h′ : List ℕ) (bs cs : List Block) → read f ≡ frame h bs → read g ≡ frame h′ cs
     → join k f g o .answer .number ≡ 0 → resultOf (join k f g o) ≡ render k h (bs ++ cs)
 join-result k f g o h h′ bs cs p q z =
     let w = join-only-if k f g o z in
     ap resultOf (join-gives k f g o w) ∙ result-delivered (render k (w .header) (w .first ++ w .second)) o
-    ∙ ap₂ (render k) (same-header f (w .header) h (w .first) bs (w .one) p)
-    (ap₂ _++_ (same-blocks f (w .header) h (w .first) bs (w .one) p) (same-blocks g (w .header) h′ (w .second) cs (w .other) q))
+    ∙ ap₂ (render k) (same-header f (w .header) h (w .first) bs (w .one .reads) p)
+    (ap₂ _++_ (same-blocks f (w .header) h (w .first) bs (w .one .reads) p) (same-blocks g (w .header) h′ (w .second) cs (w .other .reads) q))
 
--- re-forming gives the same bytes in each buffer that is long enough
-pub reform-buffers : (k : ℕ) (s o o′ : List ℕ) → reform k s o .answer .number ≡ 0 → reform k s o′ .answer .number ≡ 0
-    → resultOf (reform k s o) ≡ resultOf (reform k s o′)
-reform-buffers k s o o′ z z′ =
-    let w = reform-only-if k s o z in
-    reform-result k s o (w .header) (w .blocks) (w .reads) z ∙ sym (reform-result k s o′ (w .header) (w .blocks) (w .reads) z′)
-
--- and so does joining
+-- joining gives the same bytes in each buffer that is long enough
 pub join-buffers : (k : ℕ) (f g o o′ : List ℕ) → join k f g o .answer .number ≡ 0 → join k f g o′ .answer .number ≡ 0
     → resultOf (join k f g o) ≡ resultOf (join k f g o′)
 join-buffers k f g o o′ z z′ =
     let w = join-only-if k f g o z in
-    join-result k f g o (w .header) (w .header) (w .first) (w .second) (w .one) (w .other) z
-    ∙ sym (join-result k f g o′ (w .header) (w .header) (w .first) (w .second) (w .one) (w .other) z′)
+    join-result k f g o (w .header) (w .header) (w .first) (w .second) (w .one .reads) (w .other .reads) z
+    ∙ sym (join-result k f g o′ (w .header) (w .header) (w .first) (w .second) (w .one .reads) (w .other .reads) z′)

@@ -6,13 +6,13 @@ use Prim.Native.Nat.{ℕ}
 use Rattle.octets.specs.Choice.{isByte, all}
 use Rattle.octets.specs.Buffer.{zeros}
 use Rattle.body.specs.Body.{Block, block}
-use Rattle.reading.specs.Reading.{frame, read}
-use Rattle.reading.proofs.FrameLaws.{FrameOf, read-bytes}
 use Rattle.forms.specs.Forms.{render}
 use Rattle.writing.specs.Reforming.{reform}
 use Rattle.writing.specs.Joining.{join}
-use Rattle.frame.proofs.Succeeds.{Joinable, join-only-if}
-use Rattle.frame.proofs.Delivered.{resultOf, Reformed, reform-reads, Joined, join-reads}
+use Rattle.frame.specs.Joinable.{Joinable}
+use Rattle.frame.proofs.Succeeds.{join-only-if}
+use Rattle.frame.specs.Results.{resultOf, Joined}
+use Rattle.frame.proofs.Delivered.{Reformed, reform-reads, join-reads}
 use Rattle.frame.proofs.Associates.{FromLeft}
 use Rattle.writing.proofs.Computing.{writes}
 
@@ -40,18 +40,13 @@ second = render 3 header standard-time
 record Computed : Type 0 where
   first-bytes : all isByte first ≡ true
   second-bytes : all isByte second ≡ true
-  second-reads : read second ≡ frame header standard-time
   reforms : reform 3 first (zeros 60) .answer .number ≡ 0
   joins : join 2 first second (zeros 40) .answer .number ≡ 0
   joins-on : join 2 (resultOf (join 2 first second (zeros 40))) first (zeros 60) .answer .number ≡ 0
 
 computed : Computed
 unfolding first second header hello standard-time writes
-computed = record { first-bytes = refl; second-bytes = refl; second-reads = refl; reforms = refl; joins = refl; joins-on = refl }
-
--- a frame of bytes
-pub there : FrameOf isByte header standard-time
-there = read-bytes second header standard-time (computed .second-bytes) (computed .second-reads)
+computed = record { first-bytes = refl; second-bytes = refl; reforms = refl; joins = refl; joins-on = refl }
 
 -- a re-forming that succeeds
 pub reformed : Reformed 3 first (reform 3 first (zeros 60))

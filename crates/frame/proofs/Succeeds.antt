@@ -1,4 +1,4 @@
--- When writing, re-forming and joining answer 0, and what they then leave: each "if" has its "only if".
+-- When writing, re-forming and joining answer 0, and what they then leave: where one law says when, another says only then.
 use mathlib.Core.Path.{_≡_, refl}
 use mathlib.Core.Bool.{Bool, true, false, not, _&&_}
 use mathlib.Core.List.{List, [], _∷_, _++_}
@@ -21,6 +21,7 @@ use Rattle.writing.specs.Writing.{write}
 use Rattle.writing.specs.Reforming.{allRight, checked, putRead, reform}
 use Rattle.writing.specs.Joining.{putJoined, join}
 use Rattle.writing.proofs.Results.{put-fits}
+use Rattle.frame.specs.Joinable.{Joinable}
 use Rattle.frame.proofs.Limits.{render-length}
 
 -- ---- putting
@@ -64,10 +65,6 @@ module _ (k : ℕ) (h : List ℕ) (c : ℕ) (d o : List ℕ) where
   pub write-gives : Writable k h c d o → write k h c d o ≡ delivered (render k h (block c d true ∷ [])) o
   unfolding write
   write-gives w = rw (w .form, w .header, w .plain) (put-gives k h (block c d true ∷ []) o (w .within) (w .room))
-
-  -- and answers 0
-  pub write-if : Writable k h c d o → write k h c d o .answer .number ≡ 0
-  write-if w = rw (write-gives w)
 
   -- only then
   pub write-only-if : write k h c d o .answer .number ≡ 0 → Writable k h c d o
@@ -122,10 +119,6 @@ module _ (k : ℕ) (s o : List ℕ) where
       rw (w .form, checked-right s (w .header) (w .blocks) (w .reads) (w .right))
       (put-gives k (w .header) (w .blocks) o (w .within) (w .room))
 
-  -- and answers 0
-  pub reform-if : Reformable k s o → reform k s o .answer .number ≡ 0
-  reform-if w = rw (reform-gives w)
-
   reformable : isForm k ≡ true → (r : Reading) → CheckedOf s r → Only (Reformable k s o) (putRead k r o)
   unfolding putRead CheckedOf
   reformable i (refused n) g = refused-not n o g
@@ -141,21 +134,6 @@ module _ (k : ℕ) (s o : List ℕ) where
 
 -- ---- joining
 
--- what joining asks: a form, two frames that read with one header text and right sums, no read in the first,
--- a result within the limits, room for it
-pub record Joinable (k : ℕ) (f g o : List ℕ) : Type 0 where
-  pub form : isForm k ≡ true
-  pub header : List ℕ
-  pub first : List Block
-  pub second : List Block
-  pub one : read f ≡ frame header first
-  pub other : read g ≡ frame header second
-  pub one-right : allRight first ≡ true
-  pub other-right : allRight second ≡ true
-  pub calm : hasRead first ≡ false
-  pub within : isOver k header (first ++ second) ≡ false
-  pub room : length (render k header (first ++ second)) ≤ length o
-
 module _ (k : ℕ) (f g o : List ℕ) where
   -- then it leaves the form of all blocks
   pub join-gives : (w : Joinable k f g o) → join k f g o ≡ delivered (render k (w .header) (w .first ++ w .second)) o
@@ -163,8 +141,8 @@ module _ (k : ℕ) (f g o : List ℕ) where
   join-gives w =
       rw (
         w .form,
-        checked-right f (w .header) (w .first) (w .one) (w .one-right),
-        checked-right g (w .header) (w .second) (w .other) (w .other-right),
+        checked-right f (w .header) (w .first) (w .one .reads) (w .one .right),
+        checked-right g (w .header) (w .second) (w .other .reads) (w .other .right),
         same-self (w .header),
         w .calm,
       )
@@ -185,10 +163,8 @@ module _ (k : ℕ) (f g o : List ℕ) where
         header = h;
         first = bs;
         second = cs;
-        one = p .0;
-        other = rw (same-eq h h′ (not-false (same h h′) e)) (q .0);
-        one-right = p .1;
-        other-right = q .1;
+        one = record { reads = p .0; right = p .1 };
+        other = record { reads = rw (same-eq h h′ (not-false (same h h′) e)) (q .0); right = q .1 };
         calm = n;
         within = v;
         room = r;
@@ -212,10 +188,8 @@ join-succeeds k f g o h bs cs i p q a b n v z =
       header = h;
       first = bs;
       second = cs;
-      one = p;
-      other = q;
-      one-right = a;
-      other-right = b;
+      one = record { reads = p; right = a };
+      other = record { reads = q; right = b };
       calm = n;
       within = v;
       room = omega (arith, render-length k h (bs ++ cs) v);

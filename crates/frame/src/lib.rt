@@ -19,4 +19,4 @@ pub use header::addressing::is_own_type;
 pub use writing::Written;
 pub use writing::joining::join;
 pub use writing::reforming::reform;
-pub use writing::writing::write;
+pub use writing::write;

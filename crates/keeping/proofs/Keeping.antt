@@ -3,11 +3,11 @@
 use Prim.Native.Nat.{ℕ, _+_, _≤_}
 use mathlib.Core.Path.{_≡_, refl, sym, ap, _∙_}
 use mathlib.Core.List.{List, [], _∷_}
-use mathlib.Core.Bool.{Bool, true, false, not, _&&_, _||_}
+use mathlib.Core.Bool.{Bool, true, false, not}
 use native.Mathlib.Omega.{arith}
 use lib.ListN.{length}
 use borrow.Author.Tests.{ltb-false, eqb-true}
-use Rattle.octets.specs.Choice.{_is_, _isn't_, _<?_, _!_, none, all}
+use Rattle.octets.specs.Choice.{_is_, _isn't_, _<?_, _!_, none}
 use Rattle.octets.specs.Bytes.{A, B, E, F, G, H, isPlain}
 use Rattle.octets.proofs.Tests.{choice, never}
 use Rattle.octets.proofs.Lists.{all-tail}
@@ -17,7 +17,7 @@ use Rattle.board.specs.declared.Found.the-variants.{At, Nothing}
 use Rattle.board.specs.declared.Settings.{Settings}
 use Rattle.board.specs.Settings.{withFiles}
 use Rattle.board.specs.Files.{TEXT, STRING, FILES, File, filesOf, distinct}
-use Rattle.board.specs.Soundness.{holdsFiles, soundMemory, sound}
+use Rattle.board.specs.Soundness.{soundMemory, sound}
 use Rattle.board.proofs.Ranges.{files-ranged}
 use Rattle.board.proofs.SoundParts.{parts, sound-parts, sound-whole}
 use Rattle.effects.specs.Effects.{Board, board, Effect, done, replied, refuse}
@@ -29,46 +29,13 @@ use Rattle.special.specs.Special.{CONFIGURATION, setsAddress, setBy, change, wr
 use Rattle.commands.specs.Blocks.{command, runBlock}
 use Rattle.special.specs.declared.Change.{Change}
 use Rattle.special.specs.declared.Change.the-variants.{To, Malformed, Unknown}
-use Rattle.keeping.proofs.Messages.{fileIn, content, put-others, holding-files, holding-length, holding-sound}
+use Rattle.keeping.specs.Keeping.{fileIn, configures, writes, Effects}
+use Rattle.keeping.proofs.Messages.{content, put-others, holding-files, holding-length, holding-sound}
 use Rattle.records.proofs.RecordLaws.{laid-length, laid-sound}
 use Rattle.records.proofs.Refusing.{taken}
 use Rattle.keeping.proofs.Changes.{KeptBy, set-keeps}
 use Rattle.special.proofs.TellLengths.{told-fits}
 use Rattle.effects.proofs.ReplyLengths.{content-fits}
-
--- a sound board
-abbrev pub Sound : Board → Type 0
-Sound b = sound (b .set) (b .memory) ≡ true
-
--- a board whose memory holds its files as it has to
-abbrev pub Holds : Board → Type 0
-Holds b = holdsFiles (b .set .files) (b .memory) ≡ true
-
--- the file of a board at place k, counted from 0
-abbrev pub fileOf : Board → ℕ → File
-fileOf b k = fileIn (filesOf (b .set .files) (b .memory)) k
-
--- they replace all files
-abbrev pub configures : ℕ → List ℕ → Bool
-configures c d = c is E && d ! 0 is CONFIGURATION
-
--- they may write to memory
-abbrev pub writes : ℕ → List ℕ → Bool
-writes c d = configures c d || c is A || c is G
-
--- what an effect of a command with these data keeps
-pub record Effects (b : Board) (c : ℕ) (d : List ℕ) (e : Effect) : Type 0 where
-  pub own : e .after .set .own ≡ b .set .own
-  pub long : length (e .after .memory) ≡ length (b .memory)
-  pub sound : all isPlain d ≡ true → Sound b → Sound (e .after)
-  pub address : setsAddress c d ≡ false → e .after .set .address ≡ b .set .address
-  pub files : configures c d ≡ false → e .after .set .files ≡ b .set .files
-  pub memory : writes c d ≡ false → e .after .memory ≡ b .memory
-  pub others : configures c d ≡ false → all isPlain d ≡ true → Holds b →
-      (k : ℕ) → (fileOf b k .head ! 0 ≡ d ! 0 → ⊥) → fileOf (e .after) k ≡ fileOf b k
-  pub refused : (e .number ≡ 0 → ⊥) → (e .after ≡ b) × (e .reply ≡ [])
-  pub quiet : isRead c ≡ false → e .reply ≡ []
-  pub fits : length (e .reply) ≤ length (b .memory) + 64
 
 module _ (b : Board) (c : ℕ) where
   -- a command that leaves the board as it was
@@ -103,21 +70,21 @@ module _ (b : Board) (c : ℕ) where
   puts label kind msg w = go (findOn b label kind) refl
     where
       n : ℕ
-      n = b .set .files
+      n = b .settings .files
 
       m : List ℕ
       m = b .memory
 
       fit : (start size : ℕ) → findOn b label kind ≡ At start size → (size <? length msg) ≡ false →
-          Effects b c (label ∷ msg) (done (board (b .set) (holding m start size msg)))
+          Effects b c (label ∷ msg) (done (board (b .settings) (holding m start size msg)))
       fit start size e q =
           let small : length msg ≤ size = ltb-false size (length msg) q in
           record {
             own = refl;
             long = holding-length label kind n m start size msg e small;
             sound = λ p s.
-                let t = sound-parts (b .set) m s in
-                sound-whole (b .set) (holding m start size msg) (t .0)
+                let t = sound-parts (b .settings) m s in
+                sound-whole (b .settings) (holding m start size msg) (t .0)
                 (holding-sound n m (t .1) label kind start size e msg small (all-tail isPlain label msg p));
             address = λ n. refl;
             files = λ n. refl;
@@ -153,7 +120,7 @@ module _ (b : Board) (c : ℕ) where
       choice (Effects b c d) (length d isn't 1) (λ e. refuses d 22) (λ e. gets code d (d ! 0) (findOn b (d ! 0) kind) t)
 
   -- ---- E
-  changes : (d : List ℕ) (x : Change) → KeptBy (setsAddress c d) (b .set) x → Effects b c d (change b x)
+  changes : (d : List ℕ) (x : Change) → KeptBy (setsAddress c d) (b .settings) x → Effects b c d (change b x)
   unfolding change
   changes d Malformed k = refuses d 22
   changes d Unknown k = refuses d 21
@@ -162,7 +129,7 @@ module _ (b : Board) (c : ℕ) where
         own = k .own;
         long = refl;
         sound = λ p s.
-            let q = sound-parts (b .set) (b .memory) s in
+            let q = sound-parts (b .settings) (b .memory) s in
             sound-whole t (b .memory) (k .ranged (q .0)) (ap (λ (n : ℕ). soundMemory n (b .memory)) (k .files) ∙ q .1);
         address = k .address;
         files = λ n. k .files;
@@ -190,15 +157,15 @@ module _ (b : Board) (c : ℕ) where
       m = b .memory
 
       fit : isRecords FILES d ≡ true → distinct (labelsIn n d) ≡ true → needed n d ≤ length m →
-          P (done (board (withFiles (b .set) n) (laid n (length m) d)))
+          P (done (board (withFiles (b .settings) n) (laid n (length m) d)))
       fit e f g =
           record {
             own = refl;
             long = laid-length d e (length m) g;
             sound = λ p s.
-                let q = sound-parts (b .set) m s in
-                sound-whole (withFiles (b .set) n) (laid n (length m) d) (files-ranged (b .set) (q .0) n)
-                (laid-sound d e (length m) g (parts (b .set .files) m (q .1) .long) f);
+                let q = sound-parts (b .settings) m s in
+                sound-whole (withFiles (b .settings) n) (laid n (length m) d) (files-ranged (b .settings) (q .0) n)
+                (laid-sound d e (length m) g (parts (b .settings .files) m (q .1) .long) f);
             address = λ n. refl;
             files = λ n. never (sym w ∙ n);
             memory = λ n. never (sym (rw w) ∙ n);
@@ -219,7 +186,7 @@ module _ (b : Board) (c : ℕ) where
       l = label ∷ d
 
       s : Settings
-      s = b .set
+      s = b .settings
 
       P : Effect → Type 0
       P = Effects b c l
@@ -262,7 +229,3 @@ unfolding runBlock
 block-effects b k =
     choice (Effects b (k .command) (k .text)) (not (k .right)) (λ e. refuses b (k .command) (k .text) 20)
     (λ e. command-effects b (k .command) (k .text))
-
--- a command with plain data leaves a sound board sound
-pub command-keeps : (b : Board) (c : ℕ) (d : List ℕ) → all isPlain d ≡ true → Sound b → Sound (command b c d .after)
-command-keeps b c d p s = command-effects b c d .sound p s

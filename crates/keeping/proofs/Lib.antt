@@ -2,4 +2,3 @@
 pub mod Messages
 pub mod Changes
 pub mod Keeping
-pub mod Untouched

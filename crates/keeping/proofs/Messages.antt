@@ -4,7 +4,7 @@ use mathlib.Core.Path.{_≡_, refl, sym, ap, _∙_}
 use mathlib.Core.List.{List, [], _∷_, _++_, append-assoc}
 use mathlib.Core.Bool.{true}
 use native.Mathlib.Omega.{arith}
-use lib.ListN.{length, getD, take, drop, length-append, length-take, length-drop}
+use lib.ListN.{length, take, drop, length-append, length-take, length-drop}
 use lib.Seq.{take-at, drop-at, drop-drop}
 use borrow.Author.Tests.{eqb-true}
 use Rattle.octets.specs.Choice.{if_then_else_, _is_, _!_, all}
@@ -13,12 +13,13 @@ use Rattle.octets.specs.Bytes.{isPlain}
 use Rattle.octets.proofs.Tests.{choice, by-test, split}
 use Rattle.octets.proofs.Buffers.{length-zeros}
 use Rattle.board.specs.declared.Found.the-variants.{At, Nothing}
-use Rattle.board.specs.Files.{File, sizeOf, fileAt, filesOf, layout, labels, distinct, find, isAt}
+use Rattle.board.specs.Files.{File, sizeOf, fileAt, filesOf, labels, distinct, find, isAt}
 use Rattle.board.specs.Soundness.{isContent, holdsFiles, soundMemory}
-use Rattle.board.proofs.Layouts.{AllValid, past, parse, holds, count-files, print, valid, past-zero}
+use Rattle.board.proofs.Layouts.{layout, AllValid, past, parse, holds, count-files, print, valid, past-zero}
 use Rattle.board.proofs.Contents.{plain-content}
 use Rattle.board.proofs.SoundParts.{parts, whole}
 use Rattle.commands.specs.Commands.{holding}
+use Rattle.keeping.specs.Keeping.{fileIn}
 
 -- files, the first of the label and type with another content
 unfoldable pub putIn : List File → ℕ → ℕ → List ℕ → List File
@@ -28,10 +29,6 @@ putIn (f ∷ fs) l t m = if isAt l t (f .head) then record { head = f .head; bod
 -- "holds the message, zeros after it"
 abbrev pub content : ℕ → List ℕ → List ℕ
 content size msg = msg ++ zeros (size - length msg)
-
--- the file at place k, counted from 0; a file that is missing counts as one without bytes
-abbrev pub fileIn : List File → ℕ → File
-fileIn fs k = getD fs k (record { head = []; body = [] })
 
 -- ---- another content in a list of files
 

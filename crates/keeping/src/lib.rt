@@ -1,1 +1,1 @@
-// What every command keeps: laws over the definitions of the commands, in proofs/.
+// What every command keeps: the statement in specs/, its proof over the definitions of the commands in proofs/.

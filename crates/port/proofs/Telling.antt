@@ -12,8 +12,8 @@ use Rattle.reading.specs.Places.{Reads}
 use Rattle.reading.specs.declared.Read.{Read}
 use Rattle.port.specs.Truth.{truth}
 use Rattle.port.specs.declared.Places.{Places}
-use Rattle.port.specs.declared.Block.{Block}
-use Rattle.port.specs.Blocks.{placesAs, ReadsAs, block, blockAs}
+use Rattle.port.specs.declared.BlockPlaces.{BlockPlaces}
+use Rattle.port.specs.Blocks.{placesAs, ReadsAs, blockPlaces, blockAs}
 
 -- ---- yes or no
 pub told-truth : (x y : Bool) (v : ℕ) → x ≡ y → v ≡ truth x → v ≡ truth y
@@ -24,11 +24,11 @@ pub ruleset saying = (told-truth, needs)
 -- ---- a step
 
 -- y is what stands at the place, b the case of it that was found
-pub told-block : (s : List ℕ) (x y b : BlockStep) (v : Block) → x ≡ y → x ≡ b → v ≡ blockAs s b → v ≡ blockAs s y
+pub told-block : (s : List ℕ) (x y b : BlockStep) (v : BlockPlaces) → x ≡ y → x ≡ b → v ≡ blockAs s b → v ≡ blockAs s y
 told-block s x y b v e p q = q ∙ ap (blockAs s) (sym p ∙ e)
 
 -- whether the sum is right, as a number
-pub told-right : (k c i j n v w : ℕ) → v ≡ w → block k c v i j n ≡ block k c w i j n
+pub told-right : (k c i j n v w : ℕ) → v ≡ w → blockPlaces k c v i j n ≡ blockPlaces k c w i j n
 told-right k c i j n v w e = rw e
 
 pub ruleset stepping = (told-block, told-right, needs)
@@ -45,8 +45,8 @@ pub ruleset reading = (told-places, needs)
 -- ---- where the reader is left
 
 -- the place that C is told to go on at is the one at which a reader is left
-pub next-left : (s : List ℕ) (b : BlockStep) → blockAs s b .next ≡ placeBehind b (length s)
+pub told-left : (s : List ℕ) (b : BlockStep) → blockAs s b .next ≡ placeBehind b (length s)
 unfolding blockAs placeBehind
-next-left s Stray = refl
-next-left s (More c i j r n) = refl
-next-left s (Last c i j r) = refl
+told-left s Stray = refl
+told-left s (More c i j r n) = refl
+told-left s (Last c i j r) = refl

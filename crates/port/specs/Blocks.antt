@@ -10,7 +10,7 @@ use Rattle.reading.specs.declared.Read.{Read}
 use Rattle.reading.specs.declared.Read.the-variants.{Refused, Standard, Printable}
 use Rattle.port.specs.Truth.{truth}
 use Rattle.port.specs.declared.Places.{Places}
-use Rattle.port.specs.declared.Block.{Block}
+use Rattle.port.specs.declared.BlockPlaces.{BlockPlaces}
 
 -- number, printable or not, bytes, where the header and the first block start
 abbrev pub places : ℕ → ℕ → ℕ → ℕ → ℕ → Places
@@ -28,12 +28,12 @@ pub record ReadsAs (s room : List ℕ) (answer : Places) (after : List ℕ) : Ty
   pub left : after ≡ roomAfter s room
 
 -- which kind of step, its block's command byte, whether its sum is right, where its data start and end, and the place behind
-abbrev pub block : ℕ → ℕ → ℕ → ℕ → ℕ → ℕ → Block
-block k c r i j n = record { kind = k; command = c; right = r; from = i; to = j; next = n }
+abbrev pub blockPlaces : ℕ → ℕ → ℕ → ℕ → ℕ → ℕ → BlockPlaces
+blockPlaces k c r i j n = record { kind = k; command = c; right = r; from = i; to = j; next = n }
 
 -- of the bytes s and what stands at a place of them: 0 no block, 1 a block with another one behind it, 2 the last block;
 -- the place behind is that of the next block, or the end where there is none, as a reader is left there
-unfoldable pub blockAs : List ℕ → BlockStep → Block
-blockAs s Stray = block 0 0 0 0 0 (length s)
-blockAs s (More c i j r n) = block 1 c (truth r) i j n
-blockAs s (Last c i j r) = block 2 c (truth r) i j (length s)
+unfoldable pub blockAs : List ℕ → BlockStep → BlockPlaces
+blockAs s Stray = blockPlaces 0 0 0 0 0 (length s)
+blockAs s (More c i j r n) = blockPlaces 1 c (truth r) i j n
+blockAs s (Last c i j r) = blockPlaces 2 c (truth r) i j (length s)

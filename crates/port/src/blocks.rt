@@ -1,5 +1,5 @@
 // A frame's blocks: where they start, and a step over them. The calls below answer enums, which C has not: here they are plain numbers.
-use crate::Block;
+use crate::BlockPlaces;
 use crate::Places;
 use crate::truth::truth;
 use frame::BlockStep;
@@ -52,11 +52,11 @@ pub extern "C" fn pagozkin_read(frame: &[u8], room: &mut [u8; 8192]) -> Places
 
 // The block that starts at a place.
 #[no_mangle]
-pub extern "C" fn pagozkin_step(bytes: &[u8], at: usize) -> Block
+pub extern "C" fn pagozkin_step(bytes: &[u8], at: usize) -> BlockPlaces
     ensures { λ r. ⌜ r ≡ blockAs (now (bytes .entry)) (foundAt (now (bytes .entry)) at) ⌝ }
 {
     match step_from(bytes, at) {
-        BlockStep::Stray => Block {
+        BlockStep::Stray => BlockPlaces {
             kind: NO_BLOCK,
             command: 0,
             right: 0,
@@ -70,7 +70,7 @@ pub extern "C" fn pagozkin_step(bytes: &[u8], at: usize) -> Block
             to,
             right,
             next,
-        } => Block {
+        } => BlockPlaces {
             kind: MORE,
             command,
             right: truth(right),
@@ -83,7 +83,7 @@ pub extern "C" fn pagozkin_step(bytes: &[u8], at: usize) -> Block
             from,
             to,
             right,
-        } => Block {
+        } => BlockPlaces {
             kind: LAST,
             command,
             right: truth(right),

@@ -19,7 +19,7 @@ pub struct Places {
 // What a step over the blocks tells C: no block (0), a block with another one behind it (1) or the last block (2);
 // its command byte; whether its sum is right (1) or wrong (0); where its data start and end; and where the reader is left.
 #[repr(C)]
-pub struct Block {
+pub struct BlockPlaces {
     pub kind: u8,
     pub command: u8,
     pub right: u8,

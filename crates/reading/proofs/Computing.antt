@@ -1,5 +1,6 @@
 -- The definitions of a reading and of what stands below it, under one name.
-use Rattle.octets.specs.Choice.{equals, isByte, front, behind, all, among, same}
+use Rattle.octets.specs.Choice.{isByte, front, behind, all, among, same}
+use Rattle.octets.specs.Equal.{equals}
 use Rattle.octets.specs.Bytes.{isNul, isPlain}
 use Rattle.octets.specs.Hex.{digit, value, isHex2, hex2, isHex4, hex4, inHex4}
 use Rattle.octets.specs.Decimal.{isDecimal, decimal2, inDecimal2}
@@ -8,11 +9,12 @@ use Rattle.header.specs.Addressing.{isOwnType, fitOf, addressFits, pairFits, an
 use Rattle.header.specs.Header.{isPair, isPairs, isHeader}
 use Rattle.body.specs.Sum.{sumFrom, summed, checksum}
 use Rattle.body.specs.Body.{follow, afterEtx, afterData, blockAt, prepend, onward, blocks, isRead, readNotLast, hasRead}
-use Rattle.body.specs.Steps.{placed, foundAt, stepView, blocksIn, isBody, lastNumber, verdict}
+use Rattle.body.specs.Steps.{placed, foundAt}
+use Rattle.body.specs.Walking.{blocksIn, isBody, lastNumber, verdict}
 use Rattle.reading.specs.Translation.{push, translateFrom, translate}
 use Rattle.reading.specs.Lead.{isSoh, nulLead, sohLead, leadOf}
 use Rattle.reading.specs.Reading.{notStx, readBody, readHeader, readLed, readTranslated, readPrintable, readStandard, read}
-use Rattle.reading.specs.Places.{bytesOf, standsFor, behindLead, headerIn, headerPlace, placesOf, readPlaces, fill, roomAfter, shown, readView}
+use Rattle.reading.specs.Places.{bytesOf, standsFor, behindLead, headerIn, headerPlace, placesOf, readPlaces, fill, roomAfter}
 
 -- who unfolds it lets every definition that a reading rests on compute
 unfoldable pub reads : Unit {0}
@@ -26,9 +28,9 @@ unfolding
     isPair isPairs isHeader
     sumFrom summed checksum
     follow afterEtx afterData blockAt prepend onward blocks isRead readNotLast hasRead
-    placed foundAt stepView blocksIn isBody lastNumber verdict
+    placed foundAt blocksIn isBody lastNumber verdict
     push translateFrom translate
     isSoh nulLead sohLead leadOf
     notStx readBody readHeader readLed readTranslated readPrintable readStandard read
-    bytesOf standsFor behindLead headerIn headerPlace placesOf readPlaces fill roomAfter shown readView
+    bytesOf standsFor behindLead headerIn headerPlace placesOf readPlaces fill roomAfter
 reads = tt

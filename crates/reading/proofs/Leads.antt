@@ -10,7 +10,8 @@ use borrow.Author.Needs.{needs}
 use borrow.Author.Tests.{lt-ltb, le-ltb, eq-eqb, ne-eqb}
 use lib.ListN.{length, drop, length-take, length-drop}
 use lib.Seq.{drop-drop}
-use Rattle.octets.specs.Choice.{_is_, _!_, equals, front, behind}
+use Rattle.octets.specs.Choice.{_!_, front, behind}
+use Rattle.octets.specs.Equal.{equals}
 use Rattle.octets.specs.Bytes.{NUL, SOH, isNul}
 use Rattle.octets.proofs.Spots.{head-at, there}
 use Rattle.octets.proofs.Places.{take-front, drop-front}

@@ -15,7 +15,7 @@ use Rattle.octets.proofs.Tests.{compare, by-test, choice}
 use Rattle.octets.proofs.Places.{take-front, drop-front, end-go, end-stop, end-out}
 use Rattle.header.specs.Header.{isHeader}
 use Rattle.body.specs.Body.{Body, badBody, body, blocks, readNotLast}
-use Rattle.body.specs.Steps.{part, lastNumber, verdict}
+use Rattle.body.specs.Walking.{part, lastNumber, verdict}
 use Rattle.reading.specs.Lead.{Led, misled, led, isSoh, fewestNul, fewestSoh, nulLead, sohLead, leadOf}
 use Rattle.reading.specs.Reading.{Reading, refused, frame, notStx, readBody, readHeader, readLed}
 use Rattle.reading.specs.Places.{behindLead, headerIn}

@@ -13,13 +13,13 @@ use Rattle.octets.specs.Buffer.{overlay}
 use Rattle.octets.proofs.Tests.{compare, choice, never, or-in}
 use Rattle.header.specs.Header.{isHeader}
 use Rattle.body.specs.Body.{Block, Body, badBody, body as bodyOf, blocks, readNotLast}
-use Rattle.body.specs.Steps.{part, blocksIn, isBody, bodyAt, blocksAt}
+use Rattle.body.specs.Walking.{part, blocksIn, isBody, bodyAt, blocksAt}
 use Rattle.reading.specs.Translation.{Translation, untranslated, translated, translate}
 use Rattle.reading.specs.Lead.{Led, misled, led, leadOf}
 use Rattle.reading.specs.Reading.{Reading, refused, frame, notStx, readBody, readHeader, readLed}
 use Rattle.reading.specs.Reading.{readTranslated, readPrintable, readStandard, read}
 use Rattle.reading.specs.Places.{isPrintable, bytesOf, behindLead, headerIn, placesOf, readPlaces}
-use Rattle.reading.specs.Places.{fill, roomAfter, Reads, shown, readView}
+use Rattle.reading.specs.Places.{fill, roomAfter, Reads}
 use Rattle.reading.specs.declared.Read.{Read}
 use Rattle.reading.specs.declared.Read.the-variants.{Refused, Standard, Printable}
 use Rattle.reading.proofs.Rooms.{header-standard, stands-printable, header-printable}
@@ -210,6 +210,17 @@ module _ {s room after : List ℕ} {answer : Read} (g : Reads s room answer afte
 pub ruleset reads-as = (reads-refused, reads-standard, reads-printable, reads-within, reads-counts)
 
 -- ---- places read back
+
+-- header text and blocks of the bytes in which they stand
+unfoldable pub shown : List ℕ → Body → Reading
+shown h badBody = refused 7
+shown h (bodyOf bs) = frame h bs
+
+-- what a reading answered, read back without places
+unfoldable pub readView : List ℕ → List ℕ → Read → Reading
+readView s room (Refused n) = refused n
+readView s room (Standard i j) = shown (part i j s) (blocks BLOCKS (drop j s))
+readView s room (Printable n i j) = shown (part i j (take n room)) (blocks BLOCKS (drop j (take n room)))
 
 view-stands : (t : List ℕ) (i j : ℕ) (r : Reading) → Stands t i j r → shown (part i j t) (blocks BLOCKS (drop j t)) ≡ r
 unfolding shown

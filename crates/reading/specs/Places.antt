@@ -3,12 +3,10 @@ use Prim.Native.Nat.{ℕ, _+_, _-_}
 use mathlib.Core.Path.{_≡_}
 use mathlib.Core.Bool.{Bool}
 use mathlib.Core.List.{List, []}
-use lib.ListN.{length, take, drop}
+use lib.ListN.{length}
 use Rattle.octets.specs.Choice.{if_then_else_, _is_, _<?_, _!_}
-use Rattle.octets.specs.Bytes.{ESCAPE, PRINTABLE, TRANSLATED, BLOCKS}
+use Rattle.octets.specs.Bytes.{ESCAPE, PRINTABLE, TRANSLATED}
 use Rattle.octets.specs.Buffer.{overlay}
-use Rattle.body.specs.Body.{Body, badBody, body, blocks}
-use Rattle.body.specs.Steps.{part}
 use Rattle.reading.specs.Translation.{Translation, untranslated, translated, translate}
 use Rattle.reading.specs.Lead.{Led, misled, led, leadOf}
 use Rattle.reading.specs.Reading.{Reading, refused, frame, read}
@@ -65,13 +63,3 @@ roomAfter s room =
 pub record Reads (s room : List ℕ) (answer : Read) (after : List ℕ) : Type 0 where
   pub places : answer ≡ readPlaces s
   pub left : after ≡ roomAfter s room
-
--- the same without places: header text and blocks of the bytes in which they stand
-unfoldable pub shown : List ℕ → Body → Reading
-shown h badBody = refused 7
-shown h (body bs) = frame h bs
-
-unfoldable pub readView : List ℕ → List ℕ → Read → Reading
-readView s room (Refused n) = refused n
-readView s room (Standard i j) = shown (part i j s) (blocks BLOCKS (drop j s))
-readView s room (Printable n i j) = shown (part i j (take n room)) (blocks BLOCKS (drop j (take n room)))

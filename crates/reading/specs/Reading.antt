@@ -29,7 +29,7 @@ readBody h (body bs) = if readNotLast false bs then refused 8 else frame h bs
 unfoldable pub readHeader : List ℕ → List ℕ → Reading
 readHeader h b = if none b then refused 6 else if not (isHeader h) then refused 6 else readBody h (blocks BLOCKS b)
 
--- 4 "wrong lead"
+-- 4 "wrong .. lead"
 unfoldable pub readLed : Led → Reading
 readLed misled = refused 4
 readLed (led l) = readHeader (front notStx l) (behind notStx l)
@@ -39,7 +39,7 @@ unfoldable pub readTranslated : Translation → Reading
 readTranslated untranslated = refused 5
 readTranslated (translated t) = if TRANSLATED <? length t then refused 3 else readLed (leadOf true t)
 
--- 3 "over 24,576 printable"
+-- 3 "over .. 24,576 printable"
 unfoldable pub readPrintable : List ℕ → Reading
 readPrintable s = if PRINTABLE <? length s then refused 3 else readTranslated (translate s)
 

@@ -1,4 +1,4 @@
--- What the parts of a reading answer, by the definitions: for the contracts of the inner functions only.
+-- For contracts of inner functions only: what the parts of a reading answer, by the definitions.
 use Prim.Native.Nat.{ℕ, _+_, _-_}
 use mathlib.Core.Bool.{Bool, true, false}
 use mathlib.Core.List.{List, [], _∷_}

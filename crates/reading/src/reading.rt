@@ -6,7 +6,7 @@ use crate::translation::Counted;
 use crate::translation::count_translated;
 use crate::translation::translate_into;
 use body::judging::judge;
-use header::header::is_header;
+use header::is_header;
 use octets::bytes::ESCAPE;
 use octets::bytes::NUL;
 use octets::bytes::PRINTABLE;

@@ -12,10 +12,10 @@ use Rattle.octets.specs.Buffer.{zeros}
 use Rattle.octets.proofs.Tests.{by-test, never, split}
 use Rattle.octets.proofs.Digits.{isHex4-inHex4, hex4-inHex4}
 use Rattle.octets.proofs.Buffers.{eleven, length-zeros}
-use Rattle.board.specs.Files.{STRING, FILES, File, sizeOf, filesOf, layout, labels, distinct}
+use Rattle.board.specs.Files.{STRING, FILES, File, sizeOf, filesOf, labels, distinct}
 use Rattle.board.specs.Soundness.{isLabel, isKind, isProtection, isSize, isStartCode, isStopCode, isCodes, isRecord}
 use Rattle.board.specs.Soundness.{holdsFiles, isMemory, soundMemory}
-use Rattle.board.proofs.Layouts.{AllValid, parse, holds}
+use Rattle.board.proofs.Layouts.{layout, AllValid, parse, holds}
 use Rattle.board.proofs.Contents.{zeros-nul, zeros-content}
 use Rattle.board.proofs.SoundParts.{whole}
 use Rattle.records.specs.Records.{isRecords, recordsIn, labelsIn, needed, neededBy, sizeIn, stored, laid}

@@ -6,6 +6,7 @@ use board::files::FILES;
 use board::files::RECORD;
 use board::files::SIZE;
 use board::files::size_at;
+use board::labels::labels_distinct;
 use board::soundness::is_record;
 use buffers::copying::copy_at;
 use buffers::copying::zero_at;
@@ -14,10 +15,8 @@ ghost use mathlib.Core.Path.{_≡_};
 ghost use mathlib.Core.Bool.{true};
 ghost use Prim.Native.Nat.{_+_, _*_, _≤_};
 ghost use lib.ListN.{length, drop};
-ghost use Rattle.octets.specs.Choice.{among};
 ghost use Rattle.octets.specs.Buffer.{splice};
-ghost use Rattle.board.specs.Files.{distinct};
-ghost use Rattle.records.specs.Records.{isRecords, labelsIn, needed, neededBy, refusal, sizeIn, stored, laid};
+ghost use Rattle.records.specs.Records.{isRecords, needed, neededBy, refusal, sizeIn, stored, laid};
 ghost use Rattle.records.specs.Filing.{startsRecord, emptyFile, Spot, Listed};
 
 // Whether a record of the list stands at a place; "SIZE 0000 is allowed only in a last TEXT record".
@@ -49,41 +48,6 @@ fn is_records(d: &[u8]) -> bool
         left -= 1;
     }
     at == d.len()
-}
-
-// Whether a label is among those of n records from a place on.
-fn label_among(d: &[u8], from: usize, n: usize, label: u8) -> bool
-    requires { ⌜ from + 11 * n ≤ length (now d) ⌝ }
-    ensures { λ r. ⌜ r ≡ among label (labelsIn n (drop from (now (d .entry)))) ⌝ }
-{
-    let mut at = from;
-    let mut left = n;
-    while 0 < left {
-        if d[at] == label {
-            return true;
-        }
-        at += RECORD;
-        left -= 1;
-    }
-    false
-}
-
-// "label twice": each is looked for in the records behind its own.
-fn labels_distinct(d: &[u8], n: usize) -> bool
-    requires { ⌜ 11 * n ≤ length (now d) ⌝ }
-    ensures { λ r. ⌜ r ≡ distinct (labelsIn n (now (d .entry))) ⌝ }
-{
-    let mut at: usize = 0;
-    let mut left = n;
-    while 0 < left {
-        let label = d[at];
-        at += RECORD;
-        left -= 1;
-        if label_among(d, at, left, label) {
-            return false;
-        }
-    }
-    true
 }
 
 // What a record takes: "Sizes plus 11 for each"; SIZE 0000 "at least 1".
@@ -166,7 +130,7 @@ pub fn refusal(d: &[u8], room: usize) -> u8
         return BAD_RECORD;
     }
     let n = d.len() / RECORD;
-    if !labels_distinct(d, n) {
+    if !labels_distinct(d, n, false) {
         return LABEL_TWICE;
     }
     if room < needed(d, n) {

@@ -207,7 +207,7 @@ fn print_tally(t: Tally) {
     number(t.done as u64);
     number(t.refused as u64);
     number(t.place as u64);
-    number(t.first as u64);
+    number(t.reason as u64);
     number(t.length as u64);
 }
 

@@ -1,6 +1,6 @@
 -- The definitions of the base, under one name.
 use Rattle.board.specs.Settings.{inRange}
-use Rattle.board.specs.Files.{sizeOf, filesOf, layout, heads, used, unused, labels, distinct, isAt, find}
+use Rattle.board.specs.Files.{sizeOf, filesOf, heads, used, unused, labels, distinct, isAt, find}
 use Rattle.board.specs.Soundness.{isLabel, isKind, isProtection, isSize, isStartCode, isStopCode, isCodes, isRecord, isContent, isFileAt, holdsFiles, soundMemory, sound}
 use Rattle.effects.specs.Reply.{replyOf}
 use Rattle.commands.specs.Commands.{holding, putMessage, writeFile, getContent, readFile}
@@ -10,7 +10,7 @@ use Rattle.special.specs.Special.{setTime, setSpeaker, setFormat, setDate, setA
 use Rattle.commands.specs.Blocks.{command, runBlock}
 use Rattle.sign.specs.Run.{count, measure, onto, runBlocks, runFrame, run}
 use Rattle.sign.specs.Fresh.{fresh}
-use Rattle.sign.specs.Packing.{setsNoAddress, plus}
+use Rattle.sign.specs.Packing.{setsNoAddress}
 use Rattle.writing.proofs.Computing.{writes}
 
 -- who unfolds it lets every definition of the base compute
@@ -18,7 +18,7 @@ unfoldable pub base : Unit {0}
 unfolding
     writes
     inRange
-    sizeOf filesOf layout heads used unused labels distinct isAt find
+    sizeOf filesOf heads used unused labels distinct isAt find
     isLabel isKind isProtection isSize isStartCode isStopCode isCodes isRecord isContent isFileAt holdsFiles soundMemory sound
     replyOf
     holding putMessage writeFile getContent readFile
@@ -27,5 +27,5 @@ unfolding
     command runBlock
     count measure onto runBlocks runFrame run
     fresh
-    setsNoAddress plus
+    setsNoAddress
 base = tt

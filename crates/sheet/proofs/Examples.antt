@@ -1,7 +1,7 @@
 -- Every starred example of document 01 holds: one statement, `examples`, by computing.
 use mathlib.Core.Path.{refl}
 use Rattle.sign.proofs.Alike.{reads-alike}
-use Rattle.sheet.specs.Sheet.{bytes, start, inTurn, onFresh, AllSay, table}
+use Rattle.sheet.specs.Sheet.{bytes, start, inTurn, onFresh, addressedAt, AllSay, table}
 use Rattle.sheet.proofs.Computing.{base}
 
 infixr 10 _&_
@@ -11,12 +11,12 @@ x & y = (x, y)
 
 -- every example of the table holds
 pub examples : AllSay table
-unfolding bytes start inTurn onFresh table base
+unfolding bytes start inTurn onFresh addressedAt table base
 examples =
     refl & refl & refl
     & refl
     & refl
-    & refl & (refl, refl) & (refl, refl)
+    & refl & refl & (refl, refl, refl)
     & refl & refl & refl & refl & refl
     & (λ s m o. reads-alike s m o (bytes "_01Z00_02AAHELLO_04") (bytes "\0\0\0\0\0\u{1}Z00\u{2}AAHELLO\u{4}") refl) & refl
     & tt

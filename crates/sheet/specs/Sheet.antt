@@ -8,6 +8,7 @@ use lib.ListN.{length, take, drop, replicate}
 use Rattle.octets.specs.Choice.{_!_}
 use Rattle.octets.specs.Buffer.{zeros}
 use Rattle.body.specs.Sum.{checksum}
+use Rattle.board.specs.Settings.{withAddress}
 use Rattle.board.specs.declared.Settings.{Settings}
 use Rattle.sign.specs.Run.{Outcome, untouched, run}
 use Rattle.sign.specs.Fresh.{fresh}
@@ -31,10 +32,15 @@ inTurn x (f ∷ fs) = inTurn (next x f) fs
 unfoldable pub onFresh : ℕ → List String → Outcome
 onFresh n fs = inTurn (start n) (map bytes fs)
 
+-- a fresh board of 64 bytes at a serial address
+unfoldable pub addressedAt : ℕ → Outcome
+addressedAt a = let x = start 64 in untouched (x .answer .number) (withAddress (x .answer .settings) a) (x .memory) (x .reply)
+
 -- an example, by what it speaks of
 pub data Example : Type 0 where
   sums : List ℕ → ℕ → Example  -- a command byte with its data; its checksum
   numbers : ℕ → List String → ℕ → Example  -- memory, frames; the number of the last frame
+  reaches : ℕ → String → ℕ → Example  -- serial address of a board, a frame; its number
   refuses : ℕ → List String → ℕ → ℕ → Example  -- memory, frames; place and number of the first block that the last frame has refused
   stores : ℕ → List String → String → Example  -- memory, frames; what memory starts with then
   replies : ℕ → List String → String → Example  -- memory, frames; the reply to the last frame
@@ -44,7 +50,8 @@ pub data Example : Type 0 where
 abbrev pub Says : Example → Type 0
 Says (sums b n) = checksum (b ! 0) (drop 1 b) ≡ n
 Says (numbers m fs n) = onFresh m fs .answer .number ≡ n
-Says (refuses m fs p n) = (onFresh m fs .answer .tally .place ≡ p) × (onFresh m fs .answer .tally .first ≡ n)
+Says (reaches a f n) = next (addressedAt a) (bytes f) .answer .number ≡ n
+Says (refuses m fs p n) = (onFresh m fs .answer .number ≡ 0) × (onFresh m fs .answer .tally .place ≡ p) × (onFresh m fs .answer .tally .reason ≡ n)
 Says (stores m fs t) = take (length (bytes t)) (onFresh m fs .memory) ≡ bytes t
 Says (replies m fs t) = take (onFresh m fs .answer .tally .length) (onFresh m fs .reply) ≡ bytes t
 Says (alike f g) = (s : Settings) (m o : List ℕ) → run s m o (bytes f) ≡ run s m o (bytes g)
@@ -71,14 +78,14 @@ table =
     "\0\0\0\0\0\0\0\0\0\0\0\0\0\0\0\0\0\0\0\0\u{1}000\u{2}E#0200,01D2\u{3}0232\u{4}"
     -- "AAU0000FF00" on 512 bytes is stored as 01F5. On 64 bytes SIZE 0035 fits; 0036 is 27.
     ∷ stores 512 ("_01Z00_02E$AAU0000FF00_04" ∷ []) "AAU01F5FF00"
-    ∷ refuses 64 ("_01Z00_02E$AAU0035FF00_04" ∷ []) 0 0
+    ∷ stores 64 ("_01Z00_02E$AAU0035FF00_04" ∷ []) "AAU0035FF00"
     ∷ refuses 64 ("_01Z00_02E$AAU0036FF00_04" ∷ []) 1 27
     -- Address 1F fits "1?"; 20 does not. Address 00 fits "00", not "0?" nor "??".
-    ∷ numbers 64 ("_01Z00_02E71F_04" ∷ "_01Z1?_02E'S_04" ∷ []) 0
-    ∷ numbers 64 ("_01Z00_02E720_04" ∷ "_01Z1?_02E'S_04" ∷ []) 9
-    ∷ numbers 64 ("_01Z00_02E'S_04" ∷ []) 0
-    ∷ numbers 64 ("_01Z0?_02E'S_04" ∷ []) 9
-    ∷ numbers 64 ("_01Z??_02E'S_04" ∷ []) 9
+    ∷ reaches 0x1F "_01Z1?_02E'S_04" 0
+    ∷ reaches 0x20 "_01Z1?_02E'S_04" 9
+    ∷ reaches 0x00 "_01Z00_02E'S_04" 0
+    ∷ reaches 0x00 "_01Z0?_02E'S_04" 9
+    ∷ reaches 0x00 "_01Z??_02E'S_04" 9
     -- `_01Z00_02AAHELLO_04` does what Table 34's frame does. `_0a` is 5.
     ∷ alike "_01Z00_02AAHELLO_04" "\0\0\0\0\0\u{1}Z00\u{2}AAHELLO\u{4}"
     ∷ numbers 64 ("_0a" ∷ []) 5

@@ -8,7 +8,7 @@ use borrow.Author.Needs.{needs}
 use borrow.Author.Tests.{lt-ltb, le-ltb, not-false}
 use lib.ListN.{length, take}
 use Rattle.header.specs.Addressing.{addressed}
-use Rattle.body.specs.Steps.{part, blocksAt}
+use Rattle.body.specs.Walking.{part, blocksAt}
 use Rattle.reading.specs.Reading.{frame, read}
 use Rattle.reading.specs.Places.{Reads}
 use Rattle.reading.specs.declared.Read.{Read}
@@ -18,7 +18,7 @@ use Rattle.board.specs.Soundness.{sound}
 use Rattle.board.specs.declared.Settings.{Settings}
 use Rattle.effects.specs.Effects.{board}
 use Rattle.sign.specs.Run.{nothing, state, runBlocks, outcome, ran, runFrame, run}
-use Rattle.sign.specs.Running.{answerAs, stateAs, Parted}
+use Rattle.sign.specs.Running.{answerAs, stateAs, Framed}
 use Rattle.sign.specs.declared.Tally.{Tally}
 use Rattle.sign.specs.declared.Answer.{Answer}
 use Rattle.sign.specs.declared.run.Ran.{Ran}
@@ -61,7 +61,7 @@ module _ (s : Settings) (m o f : List ℕ) (b : Bool) (e : b ≡ sound s m) wher
       run-on = rw (← e, y, le-ltb (length o) (length m + 64) l)
 
       -- where a frame stands in bytes t
-      parted : {t : List ℕ} {i j : ℕ} → Stands t i j (read f) → Parted s m o t i j
+      parted : {t : List ℕ} {i j : ℕ} → Stands t i j (read f) → Framed s m o t i j
       parted w =
           record {
             running = record { ready = record { sound = sym e ∙ not-false b y; room = l }; good = stands-good w };
@@ -81,7 +81,7 @@ module _ (s : Settings) (m o f : List ℕ) (b : Bool) (e : b ≡ sound s m) wher
 
         -- a standard frame
         module _ {i j : ℕ} (h : x ≡ Standard i j) where
-          pub standard-parted : Parted s m o f i j
+          pub standard-parted : Framed s m o f i j
           standard-parted = parted (reads-standard g h)
 
           pub standard-ran : (r : Answer) (m′ o′ : List ℕ) → outcome r m′ o′ ≡ runFrame s m o (frame (part i j f) (blocksAt f j)) →
@@ -90,7 +90,7 @@ module _ (s : Settings) (m o f : List ℕ) (b : Bool) (e : b ≡ sound s m) wher
 
         -- a printable one
         module _ {n i j : ℕ} (h : x ≡ Printable n i j) where
-          pub printable-parted : Parted s m o (take n after) i j
+          pub printable-parted : Framed s m o (take n after) i j
           printable-parted = parted (reads-printable g h .stands)
 
           pub printable-ran : (r : Answer) (m′ o′ : List ℕ) →

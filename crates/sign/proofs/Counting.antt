@@ -8,20 +8,20 @@ use Rattle.sign.specs.declared.Tally.{Tally}
 
 module _ (t : Tally) (n : ℕ) where
   -- a block that was done
-  pub count-done : n ≡ 0 → tally (t .done + 1) (t .refused) (t .place) (t .first) (t .length) ≡ count t n
+  pub count-done : n ≡ 0 → tally (t .done + 1) (t .refused) (t .place) (t .reason) (t .length) ≡ count t n
   unfolding count
   count-done e = rw (eq-eqb n 0 e)
 
   module _ (r : n ≡ 0 → ⊥) where
     -- the first that was refused
-    pub count-first : t .first ≡ 0 → tally (t .done) (t .refused + 1) (t .done + t .refused + 1) n (t .length) ≡ count t n
+    pub count-first : t .reason ≡ 0 → tally (t .done) (t .refused + 1) (t .done + t .refused + 1) n (t .length) ≡ count t n
     unfolding count
-    count-first e = rw (ne-eqb n 0 r, eq-eqb (t .first) 0 e)
+    count-first e = rw (ne-eqb n 0 r, eq-eqb (t .reason) 0 e)
 
     -- another one
-    pub count-later : (t .first ≡ 0 → ⊥) → tally (t .done) (t .refused + 1) (t .place) (t .first) (t .length) ≡ count t n
+    pub count-later : (t .reason ≡ 0 → ⊥) → tally (t .done) (t .refused + 1) (t .place) (t .reason) (t .length) ≡ count t n
     unfolding count
-    count-later f = rw (ne-eqb n 0 r, ne-eqb (t .first) 0 f)
+    count-later f = rw (ne-eqb n 0 r, ne-eqb (t .reason) 0 f)
 
   -- no reply
   pub measure-none : n ≡ 0 → t ≡ measure t n
@@ -29,7 +29,7 @@ module _ (t : Tally) (n : ℕ) where
   measure-none e = rw (eq-eqb n 0 e)
 
   -- a reply
-  pub measure-some : (n ≡ 0 → ⊥) → tally (t .done) (t .refused) (t .place) (t .first) n ≡ measure t n
+  pub measure-some : (n ≡ 0 → ⊥) → tally (t .done) (t .refused) (t .place) (t .reason) n ≡ measure t n
   unfolding measure
   measure-some r = rw (ne-eqb n 0 r)
 

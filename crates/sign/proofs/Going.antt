@@ -10,7 +10,8 @@ use Rattle.octets.specs.Choice.{_is_, all}
 use Rattle.octets.specs.Bytes.{BLOCKS, isPlain}
 use Rattle.octets.proofs.Tests.{choice, never}
 use Rattle.body.specs.Body.{Block, block, Body, badBody, body, prepend, blocks}
-use Rattle.body.specs.Steps.{part, foundAt, blocksIn, isBody, bodyAt, blocksAt}
+use Rattle.body.specs.Steps.{foundAt}
+use Rattle.body.specs.Walking.{part, blocksIn, isBody, bodyAt, blocksAt}
 use Rattle.body.specs.declared.BlockStep.{BlockStep}
 use Rattle.body.specs.declared.BlockStep.the-variants.{Stray, More, Last}
 use Rattle.body.proofs.Taken.{anything, all-anything, BodyOf, blocks-of}
@@ -23,7 +24,8 @@ use Rattle.commands.specs.Blocks.{runBlock}
 use Rattle.commands.specs.Doing.{Does}
 use Rattle.effects.specs.Leaving.{Ready}
 use Rattle.effects.specs.declared.Done.{Done}
-use Rattle.keeping.proofs.Keeping.{Sound, block-effects}
+use Rattle.keeping.specs.Keeping.{Sound}
+use Rattle.keeping.proofs.Keeping.{block-effects}
 use Rattle.sign.specs.Run.{nothing, count, measure, State, state, onto, runBlocks}
 use Rattle.sign.specs.Running.{stateAs, Runnable, Running}
 use Rattle.sign.specs.declared.Tally.{Tally}
@@ -36,7 +38,7 @@ count-total : (t : Tally) (n : ℕ) → count t n .done + count t n .refused ≡
 unfolding count
 count-total t n =
     choice P (n is 0) (λ e. omega arith)
-    (λ e. choice P (t .first is 0) (λ f. omega arith) (λ f. omega arith))
+    (λ e. choice P (t .reason is 0) (λ f. omega arith) (λ f. omega arith))
   where
     P : Tally → Type 0
     P u = u .done + u .refused ≡ t .done + t .refused + 1
@@ -141,7 +143,7 @@ module _ {s : Settings} {m₀ o₀ t : List ℕ} {from : ℕ} {m o : List ℕ} {
 
         sound-after : Sound (board (r′ .settings) m′)
         unfolding b onto
-        sound-after = ap (λ (y : State). sound (y .now .set) (y .now .memory)) f ∙ block-effects (board (r .settings) m) b .sound plain-here (g .ready .sound)
+        sound-after = ap (λ (y : State). sound (y .now .settings) (y .now .memory)) f ∙ block-effects (board (r .settings) m) b .sound plain-here (g .ready .sound)
 
         pub going-more : length m′ ≡ length m → length o′ ≡ length o → Going s m₀ o₀ t from m′ o′ n (left - 1) r′
         unfolding b rest onto

@@ -1,9 +1,9 @@
 -- Laws of runs: how they join, what they count, what they keep; packing; and what the functions go by.
+pub mod Adding
 pub mod RunLaws
 pub mod Steady
 pub mod PackingLaws
 pub mod Alike
-pub mod Instance
 pub mod Unique
 pub mod Counting
 pub mod Making

@@ -16,8 +16,9 @@ use Rattle.board.specs.Soundness.{sound}
 use Rattle.board.specs.declared.Settings.{Settings}
 use Rattle.effects.specs.Effects.{board}
 use Rattle.sign.specs.Run.{nothing, State, state, runBlocks, Outcome, untouched, ran, runFrame, run}
-use Rattle.sign.specs.Packing.{setsNoAddress, next, plus, together, Packed}
+use Rattle.sign.specs.Packing.{setsNoAddress, next}
 use Rattle.sign.specs.declared.Tally.{Tally}
+use Rattle.sign.proofs.Adding.{plus, together, Packed}
 use Rattle.sign.proofs.RunLaws.{upon, counts-join, none-zero}
 use Rattle.sign.proofs.Steady.{NoReads, run-passed, run-steady}
 
@@ -95,10 +96,10 @@ module _ (s : Settings) (m o f g j h : List ℕ) (bs cs : List Block)
       unfolding start first later
       ran-later =
           let p = run-passed bs start in
-          let adr : first .now .set .address ≡ s .address =
+          let adr : first .now .settings .address ≡ s .address =
           sym (ap (λ (x : Outcome). x .answer .settings .address) ran-first) ∙ still in
           ap (λ (x : Outcome). next x g) ran-first
-          ∙ run-here (first .now .set) (first .now .memory) (first .buffer) g (p .sound (read-plain f h bs rf .blocks .plain) e)
+          ∙ run-here (first .now .settings) (first .now .memory) (first .buffer) g (p .sound (read-plain f h bs rf .blocks .plain) e)
           (rw (quiet .0, p .memory) l) h cs rg (rw (p .own, adr) a)
 
       ran-both : run s m o j ≡ ran (upon (first .counts) later)
@@ -137,10 +138,10 @@ module _ (s : Settings) (m o f g j h : List ℕ) (bs cs : List Block)
 
 -- ---- what the one equation says of each part
 
-place-sum : (t u : Tally) → (t .first ≡ 0 → t .place ≡ 0) →
-    plus t u .place ≡ (if t .first is 0 then (if u .first is 0 then 0 else t .done + t .refused + u .place) else t .place)
+place-sum : (t u : Tally) → (t .reason ≡ 0 → t .place ≡ 0) →
+    plus t u .place ≡ (if t .reason is 0 then (if u .reason is 0 then 0 else t .done + t .refused + u .place) else t .place)
 unfolding plus
-place-sum t u n = by-test (t .first is 0) (λ q. simp (q, n (eqb-true (t .first) 0 q))) (λ q. simp q)
+place-sum t u n = by-test (t .reason is 0) (λ q. simp (q, n (eqb-true (t .reason) 0 q))) (λ q. simp q)
 
 module _ (s : Settings) (m o f g j : List ℕ) (p : Packed s m o f g j) where
   -- the first run, and the second
@@ -177,15 +178,15 @@ module _ (s : Settings) (m o f g j : List ℕ) (p : Packed s m o f g j) where
   packed-refused = ap (λ (x : Outcome). x .answer .tally .refused) (p .whole)
 
   -- the first refused block's number is the first run's, else the second's
-  pub packed-first : run s m o j .answer .tally .first ≡
-      (if one .answer .tally .first is 0 then other .answer .tally .first else one .answer .tally .first)
+  pub packed-reason : run s m o j .answer .tally .reason ≡
+      (if one .answer .tally .reason is 0 then other .answer .tally .reason else one .answer .tally .reason)
   unfolding plus
-  packed-first = ap (λ (x : Outcome). x .answer .tally .first) (p .whole)
+  packed-reason = ap (λ (x : Outcome). x .answer .tally .reason) (p .whole)
 
   -- its place is the first run's, else the second's moved by the first run's blocks, else 0
   pub packed-place : run s m o j .answer .tally .place ≡
-      (if one .answer .tally .first is 0
-      then (if other .answer .tally .first is 0 then 0
+      (if one .answer .tally .reason is 0
+      then (if other .answer .tally .reason is 0 then 0
       else one .answer .tally .done + one .answer .tally .refused + other .answer .tally .place)
       else one .answer .tally .place)
   unfolding plus

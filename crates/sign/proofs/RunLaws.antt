@@ -17,7 +17,8 @@ use Rattle.board.specs.declared.Settings.{Settings}
 use Rattle.effects.specs.Effects.{Board, board, Effect}
 use Rattle.commands.specs.Blocks.{runBlock}
 use Rattle.sign.specs.Run.{tally, nothing, count, measure, State, state, onto, runBlocks, Outcome, runFrame, run}
-use Rattle.sign.specs.Packing.{plus}
+use Rattle.sign.specs.Counts.{blockNumbers, doneIn, refusedIn, reasonIn, placeIn, Counts}
+use Rattle.sign.proofs.Adding.{plus}
 use Rattle.sign.specs.declared.Tally.{Tally}
 
 -- ---- runs join
@@ -33,9 +34,9 @@ tally-eq a b c d e = λ i. tally (a i) (b i) (c i) (d i) (e i)
 
 count-plus : (t u : Tally) (n : ℕ) → count (plus t u) n ≡ plus t (count u n)
 unfolding count plus
-count-plus t u n = go (n is 0) (t .first is 0) (u .first is 0) refl refl refl
+count-plus t u n = go (n is 0) (t .reason is 0) (u .reason is 0) refl refl refl
   where
-    go : (p q r : Bool) → (n is 0) ≡ p → (t .first is 0) ≡ q → (u .first is 0) ≡ r → count (plus t u) n ≡ plus t (count u n)
+    go : (p q r : Bool) → (n is 0) ≡ p → (t .reason is 0) ≡ q → (u .reason is 0) ≡ r → count (plus t u) n ≡ plus t (count u n)
     go true q r a b c = simp a (tally-eq (omega arith) refl refl refl refl)
     go false true true a b c = simp (a, b, c) (tally-eq refl (omega arith) (omega arith) refl refl)
     go false true false a b c = simp (a, b, c) (tally-eq refl (omega arith) refl refl refl)
@@ -49,8 +50,8 @@ measure-plus t u n = by-test (n is 0) (λ a. simp a) (λ a. simp a)
 plus-nothing : (t : Tally) → plus t nothing ≡ t
 unfolding plus
 plus-nothing t =
-    by-test (t .first is 0)
-    (λ a. simp a (tally-eq (omega arith) (omega arith) refl (sym (eqb-true (t .first) 0 a)) refl))
+    by-test (t .reason is 0)
+    (λ a. simp a (tally-eq (omega arith) (omega arith) refl (sym (eqb-true (t .reason) 0 a)) refl))
     (λ a. simp a (tally-eq (omega arith) (omega arith) refl refl refl))
 
 -- a state whose counts come on top of others
@@ -85,34 +86,9 @@ counts-join b o xs ys =
 
 -- ---- the numbers of the blocks, one after another
 
--- the number of each block, 0 where it is done
-unfoldable pub numbers : Board → List Block → List ℕ
-numbers b [] = []
-numbers b (k ∷ ks) = runBlock b k .number ∷ numbers (runBlock b k .after) ks
-
--- how many are 0
-unfoldable pub doneIn : List ℕ → ℕ
-doneIn [] = 0
-doneIn (x ∷ xs) = if x is 0 then suc (doneIn xs) else doneIn xs
-
--- how many are not
-unfoldable pub refusedIn : List ℕ → ℕ
-refusedIn [] = 0
-refusedIn (x ∷ xs) = if x is 0 then refusedIn xs else suc (refusedIn xs)
-
--- the first that is not 0; 0 if none
-unfoldable pub firstIn : List ℕ → ℕ
-firstIn [] = 0
-firstIn (x ∷ xs) = if x is 0 then firstIn xs else x
-
--- its place, from 1; 0 if none
-unfoldable pub placeIn : List ℕ → ℕ
-placeIn [] = 0
-placeIn (x ∷ xs) = if x is 0 then (if firstIn xs is 0 then 0 else suc (placeIn xs)) else 1
-
 -- there is a number for each block
-pub numbers-length : (b : Board) (ks : List Block) → length (numbers b ks) ≡ length ks
-unfolding numbers
+pub numbers-length : (b : Board) (ks : List Block) → length (blockNumbers b ks) ≡ length ks
+unfolding blockNumbers
 numbers-length b [] = refl
 numbers-length b (k ∷ ks) = ap suc (numbers-length (runBlock b k .after) ks)
 
@@ -125,40 +101,33 @@ done-and-refused (x ∷ xs) =
     by-test (x is 0) (λ e. simp (e, e) (omega arith)) (λ e. simp (e, e) (omega arith))
 
 -- where none is refused there is no place
-pub place-none : (xs : List ℕ) → firstIn xs ≡ 0 → placeIn xs ≡ 0
-unfolding firstIn placeIn
+pub place-none : (xs : List ℕ) → reasonIn xs ≡ 0 → placeIn xs ≡ 0
+unfolding reasonIn placeIn
 place-none [] e = refl
 place-none (x ∷ xs) e =
     by-test (x is 0)
-    (λ q. let z : firstIn xs ≡ 0 = rw q at e in simp (q, eq-eqb (firstIn xs) 0 z))
+    (λ q. let z : reasonIn xs ≡ 0 = rw q at e in simp (q, eq-eqb (reasonIn xs) 0 z))
     (λ q. absurd (eqb-false x 0 q (rw q at e)))
 
--- ---- counts are those of the numbers
-
--- counts of blocks with these numbers
-pub record Counts (t : Tally) (ns : List ℕ) : Type 0 where
-  pub done : t .done ≡ doneIn ns
-  pub refused : t .refused ≡ refusedIn ns
-  pub first : t .first ≡ firstIn ns
-  pub place : t .place ≡ placeIn ns
+-- ---- counts are those of the blockNumbers
 
 -- a block in front of others
 counts-one : (n : ℕ) (u : Tally) (ns : List ℕ) → Counts u ns → Counts (plus (count nothing n) u) (n ∷ ns)
-unfolding plus count doneIn refusedIn firstIn placeIn
+unfolding plus count doneIn refusedIn reasonIn placeIn
 counts-one n u ns i =
     by-test (n is 0)
     (λ a.
     record {
       done = simp (a, i .done) (omega arith);
       refused = simp (a, i .refused) (omega arith);
-      first = simp (a, i .first);
-      place = simp (a, i .first, i .place) (ap (λ (x : ℕ). if firstIn ns is 0 then 0 else x) (omega arith));
+      reason = simp (a, i .reason);
+      place = simp (a, i .reason, i .place) (ap (λ (x : ℕ). if reasonIn ns is 0 then 0 else x) (omega arith));
     })
     (λ a.
     record {
       done = simp (a, i .done) (omega arith);
       refused = simp (a, i .refused) (omega arith);
-      first = simp a;
+      reason = simp a;
       place = simp a;
     })
 
@@ -168,18 +137,18 @@ unfolding plus measure
 counts-more n k u ns i =
     let c = counts-one n u ns i in
     choice (λ (t : Tally). Counts (plus t u) (n ∷ ns)) (k is 0) (λ z. c)
-    (λ z. record { done = c .done; refused = c .refused; first = c .first; place = c .place })
+    (λ z. record { done = c .done; refused = c .refused; reason = c .reason; place = c .place })
 
 -- the counts of a run over blocks
-pub run-counted : (b : Board) (o : List ℕ) (ks : List Block) → Counts (runBlocks (state b o nothing) ks .counts) (numbers b ks)
-unfolding runBlocks numbers onto doneIn refusedIn firstIn placeIn
-run-counted b o [] = record { done = refl; refused = refl; first = refl; place = refl }
+pub run-counted : (b : Board) (o : List ℕ) (ks : List Block) → Counts (runBlocks (state b o nothing) ks .counts) (blockNumbers b ks)
+unfolding runBlocks blockNumbers onto doneIn refusedIn reasonIn placeIn
+run-counted b o [] = record { done = refl; refused = refl; reason = refl; place = refl }
 run-counted b o (k ∷ ks) =
     let e = runBlock b k in
     let t = measure (count nothing (e .number)) (length (e .reply)) in
     let x = overlay o (e .reply) in
-    subst (λ (u : Tally). Counts u (numbers b (k ∷ ks))) (sym (ap (λ (st : State). st .counts) (run-counts (e .after) x t ks)))
-    (counts-more (e .number) (length (e .reply)) (runBlocks (state (e .after) x nothing) ks .counts) (numbers (e .after) ks)
+    subst (λ (u : Tally). Counts u (blockNumbers b (k ∷ ks))) (sym (ap (λ (st : State). st .counts) (run-counts (e .after) x t ks)))
+    (counts-more (e .number) (length (e .reply)) (runBlocks (state (e .after) x nothing) ks .counts) (blockNumbers (e .after) ks)
     (run-counted (e .after) x ks))
 
 -- ---- the counts of a whole run
@@ -187,12 +156,12 @@ run-counted b o (k ∷ ks) =
 -- counts by what was read
 abbrev CountedBy : Board → Reading → Tally → Type 0
 CountedBy b (refused n) t = Unit {0}
-CountedBy b (frame h bs) t = Counts t (numbers b bs)
+CountedBy b (frame h bs) t = Counts t (blockNumbers b bs)
 
 -- a run whose number is 0 has counted; no run has a place without a number
 record Tallied (b : Board) (r : Reading) (x : Outcome) : Type 0 where
   counted : x .answer .number ≡ 0 → CountedBy b r (x .answer .tally)
-  none : x .answer .tally .first ≡ 0 → x .answer .tally .place ≡ 0
+  none : x .answer .tally .reason ≡ 0 → x .answer .tally .place ≡ 0
 
 frame-tallied : (s : Settings) (m o : List ℕ) (r : Reading) → Tallied (board s m) r (runFrame s m o r)
 unfolding runFrame
@@ -201,7 +170,7 @@ frame-tallied s m o (frame h bs) =
     let c = run-counted (board s m) o bs in
     choice (Tallied (board s m) (frame h bs)) (not (addressed (s .own) (s .address) h))
     (λ e. record { counted = λ z. absurd (omega arith); none = λ z. refl })
-    (λ e. record { counted = λ z. c; none = λ z. c .place ∙ place-none (numbers (board s m) bs) (sym (c .first) ∙ z) })
+    (λ e. record { counted = λ z. c; none = λ z. c .place ∙ place-none (blockNumbers (board s m) bs) (sym (c .reason) ∙ z) })
 
 run-tallied : (s : Settings) (m o f : List ℕ) → Tallied (board s m) (read f) (run s m o f)
 unfolding run
@@ -214,7 +183,7 @@ run-tallied s m o f =
 
 -- each count of a run whose number is 0 is the number of blocks of that outcome
 pub answer-counted : (s : Settings) (m o f h : List ℕ) (bs : List Block) → read f ≡ frame h bs → run s m o f .answer .number ≡ 0 →
-    Counts (run s m o f .answer .tally) (numbers (board s m) bs)
+    Counts (run s m o f .answer .tally) (blockNumbers (board s m) bs)
 answer-counted s m o f h bs e z = rw e at (run-tallied s m o f .counted z)
 
 -- blocks done and blocks refused are all of them
@@ -222,8 +191,8 @@ pub answer-all : (s : Settings) (m o f h : List ℕ) (bs : List Block) → read 
     run s m o f .answer .tally .done + run s m o f .answer .tally .refused ≡ length bs
 answer-all s m o f h bs e z =
     let c = answer-counted s m o f h bs e z in
-    rw (c .done, c .refused) (done-and-refused (numbers (board s m) bs) ∙ numbers-length (board s m) bs)
+    rw (c .done, c .refused) (done-and-refused (blockNumbers (board s m) bs) ∙ numbers-length (board s m) bs)
 
 -- "the place (from 1) and number of the first refused block, both 0 if none"
-pub none-zero : (s : Settings) (m o f : List ℕ) → run s m o f .answer .tally .first ≡ 0 → run s m o f .answer .tally .place ≡ 0
+pub none-zero : (s : Settings) (m o f : List ℕ) → run s m o f .answer .tally .reason ≡ 0 → run s m o f .answer .tally .place ≡ 0
 none-zero s m o f z = run-tallied s m o f .none z

@@ -25,7 +25,8 @@ use Rattle.board.proofs.SoundParts.{whole, sound-whole}
 use Rattle.effects.specs.Effects.{board}
 use Rattle.commands.specs.Blocks.{runBlock}
 use Rattle.special.specs.Special.{setsAddress}
-use Rattle.keeping.proofs.Keeping.{Sound, block-effects}
+use Rattle.keeping.specs.Keeping.{Sound}
+use Rattle.keeping.proofs.Keeping.{block-effects}
 use Rattle.sign.specs.Run.{nothing, count, measure, State, state, onto, runBlocks, Outcome, untouched, runFrame, run}
 use Rattle.sign.specs.Fresh.{Making, fresh}
 use Rattle.sign.specs.Packing.{setsNoAddress}
@@ -40,11 +41,11 @@ NoReads (k ∷ ks) = (isRead (k .command) ≡ false) × NoReads ks
 
 -- what blocks keep, from a state to a state
 pub record Passed (ks : List Block) (st x : State) : Type 0 where
-  pub own : x .now .set .own ≡ st .now .set .own
+  pub own : x .now .settings .own ≡ st .now .settings .own
   pub memory : length (x .now .memory) ≡ length (st .now .memory)
   pub buffer : length (st .now .memory) + 64 ≤ length (st .buffer) → length (x .buffer) ≡ length (st .buffer)
   pub sound : Plain ks → Sound (st .now) → Sound (x .now)
-  pub address : setsNoAddress ks ≡ true → x .now .set .address ≡ st .now .set .address
+  pub address : setsNoAddress ks ≡ true → x .now .settings .address ≡ st .now .settings .address
   pub quiet : NoReads ks → (x .buffer ≡ st .buffer) × (x .counts .length ≡ st .counts .length)
 
 -- a block without a reply
@@ -53,7 +54,7 @@ unfolding measure count
 length-none t n s e =
     rw e
     (choice (λ (u : Tally). u .length ≡ t .length) (n is 0) (λ e. refl)
-    (λ e. choice (λ (u : Tally). u .length ≡ t .length) (t .first is 0) (λ e. refl) (λ e. refl)))
+    (λ e. choice (λ (u : Tally). u .length ≡ t .length) (t .reason is 0) (λ e. refl) (λ e. refl)))
 
 -- blocks, from any state
 pub run-passed : (ks : List Block) (st : State) → Passed ks st (runBlocks st ks)

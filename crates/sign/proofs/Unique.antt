@@ -5,7 +5,6 @@ use mathlib.Core.List.{List}
 use Rattle.board.specs.declared.Settings.{Settings}
 use Rattle.sign.specs.Run.{Outcome, outcome, run}
 use Rattle.sign.specs.Fresh.{Making, making, fresh}
-use Rattle.sign.specs.Packing.{next}
 use Rattle.sign.specs.declared.Answer.{Answer}
 use Rattle.sign.specs.declared.Made.{Made}
 
@@ -25,14 +24,7 @@ module _ (s : Settings) (m o f : List ℕ) {r r′ : Answer} {a a′ b b′ : Li
   pub run-promised : run s m o f ≡ outcome r′ a′ b′ → (r ≡ r′) × (a ≡ a′) × (b ≡ b′)
   run-promised q = outcome-parts (p ∙ q)
 
-  -- a run on what it left is the next run
-  pub run-next : (g : List ℕ) → outcome r′ a′ b′ ≡ run (r .settings) a b g → outcome r′ a′ b′ ≡ next (run s m o f) g
-  run-next g q = q ∙ ap (λ (x : Outcome). next x g) p
-
 module _ (t : ℕ) (m : List ℕ) {r r′ : Made} {a a′ : List ℕ} (p : making r a ≡ fresh t m) where
   -- whatever keeps the promise of `fresh`: one answer, one memory
   pub fresh-unique : making r′ a′ ≡ fresh t m → (r ≡ r′) × (a ≡ a′)
   fresh-unique q = making-parts (p ∙ sym q)
-
-  pub fresh-promised : fresh t m ≡ making r′ a′ → (r ≡ r′) × (a ≡ a′)
-  fresh-promised q = making-parts (p ∙ q)

@@ -15,9 +15,9 @@ use Rattle.board.specs.declared.Settings.{Settings}
 use Rattle.sign.specs.declared.Tally.{Tally}
 use Rattle.sign.specs.declared.Answer.{Answer}
 
--- "blocks done, blocks refused, the place (from 1) and number of the first refused block, and the reply's length"
+-- "blocks done, blocks refused, the place (from 1) and number of the first refused block, .. and the reply's length"
 abbrev pub tally : ℕ → ℕ → ℕ → ℕ → ℕ → Tally
-tally d r p f n = record { done = d; refused = r; place = p; first = f; length = n }
+tally d r p f n = record { done = d; refused = r; place = p; reason = f; length = n }
 
 -- "both 0 if none"
 abbrev pub nothing : Tally
@@ -26,13 +26,13 @@ nothing = tally 0 0 0 0 0
 -- one block more, of that number
 unfoldable pub count : Tally → ℕ → Tally
 count t number =
-    if number is 0 then tally (t .done + 1) (t .refused) (t .place) (t .first) (t .length)
-    else if t .first is 0 then tally (t .done) (t .refused + 1) (t .done + t .refused + 1) number (t .length)
-    else tally (t .done) (t .refused + 1) (t .place) (t .first) (t .length)
+    if number is 0 then tally (t .done + 1) (t .refused) (t .place) (t .reason) (t .length)
+    else if t .reason is 0 then tally (t .done) (t .refused + 1) (t .done + t .refused + 1) number (t .length)
+    else tally (t .done) (t .refused + 1) (t .place) (t .reason) (t .length)
 
 -- a reply of that length, if there is one
 unfoldable pub measure : Tally → ℕ → Tally
-measure t n = if n is 0 then t else tally (t .done) (t .refused) (t .place) (t .first) n
+measure t n = if n is 0 then t else tally (t .done) (t .refused) (t .place) (t .reason) n
 
 -- between two blocks: the board, the reply buffer, the counts
 pub record State : Type 0 where
@@ -64,16 +64,16 @@ abbrev pub outcome : Answer → List ℕ → List ℕ → Outcome
 outcome r m o = record { answer = r; memory = m; reply = o }
 
 -- number, counts, settings, memory, reply buffer
-abbrev pub answers : ℕ → Tally → Settings → List ℕ → List ℕ → Outcome
-answers n t s m o = outcome (record { number = n; tally = t; settings = s }) m o
+abbrev pub outcomeAs : ℕ → Tally → Settings → List ℕ → List ℕ → Outcome
+outcomeAs n t s m o = outcome (record { number = n; tally = t; settings = s }) m o
 
 -- "1 to 9: board and buffers untouched, everything else returned is 0."
 abbrev pub untouched : ℕ → Settings → List ℕ → List ℕ → Outcome
-untouched n s m o = answers n nothing s m o
+untouched n s m o = outcomeAs n nothing s m o
 
 -- "20 to 27 concern one block; the frame's number is 0."
 abbrev pub ran : State → Outcome
-ran st = answers 0 (st .counts) (st .now .set) (st .now .memory) (st .buffer)
+ran st = outcomeAs 0 (st .counts) (st .now .settings) (st .now .memory) (st .buffer)
 
 -- 3 to 8; 9 "not addressed"
 unfoldable pub runFrame : Settings → List ℕ → List ℕ → Reading → Outcome

@@ -1,11 +1,11 @@
--- What the inner functions of a run need and answer, by the definitions: for their contracts only.
+-- For contracts of inner functions only: what the parts of a run need and answer, by the definitions.
 use Prim.Native.Nat.{ℕ, _+_, _≤_, _<_}
 use mathlib.Core.Path.{_≡_}
 use mathlib.Core.Bool.{true}
 use mathlib.Core.List.{List}
 use lib.ListN.{length}
 use Rattle.octets.specs.Bytes.{BLOCKS}
-use Rattle.body.specs.Steps.{bodyAt}
+use Rattle.body.specs.Walking.{bodyAt}
 use Rattle.board.specs.declared.Settings.{Settings}
 use Rattle.effects.specs.Effects.{board}
 use Rattle.effects.specs.Leaving.{Ready}
@@ -33,7 +33,7 @@ pub record Running (s : Settings) (m o t : List ℕ) (from : ℕ) : Type 0 where
   pub good : bodyAt t from ≡ true
 
 -- and its header text before it
-pub record Parted (s : Settings) (m o t : List ℕ) (header from : ℕ) : Type 0 where
+pub record Framed (s : Settings) (m o t : List ℕ) (header from : ℕ) : Type 0 where
   pub running : Running s m o t from
   pub ordered : header ≤ from
   pub inside : from ≤ length t

@@ -11,7 +11,7 @@ pub struct Tally {
     pub done: u8,
     pub refused: u8,
     pub place: u8,
-    pub first: u8,
+    pub reason: u8,
     pub length: usize,
 }
 

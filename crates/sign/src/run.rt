@@ -17,14 +17,14 @@ ghost use mathlib.Core.Path.{_≡_};
 ghost use Prim.Native.Nat.{_+_, _<_};
 ghost use Rattle.octets.specs.Bytes.{BLOCKS};
 ghost use Rattle.body.specs.Body.{block};
-ghost use Rattle.body.specs.Steps.{part, blocksAt};
+ghost use Rattle.body.specs.Walking.{part, blocksAt};
 ghost use Rattle.reading.specs.Reading.{frame};
 ghost use Rattle.effects.specs.Effects.{board};
 ghost use Rattle.commands.specs.Blocks.{runBlock};
 ghost use Rattle.sign.specs.Run.{nothing, count, measure, state, onto, runBlocks, outcome, runFrame, run};
-ghost use Rattle.sign.specs.Running.{answerAs, Runnable, Running, Parted, stateAs};
+ghost use Rattle.sign.specs.Running.{answerAs, Runnable, Running, Framed, stateAs};
 
-// "a reply buffer": so much longer than memory
+// "reply buffer shorter than memory plus 64"
 const REPLY_ROOM: usize = 64;
 
 // The counts and the settings behind the blocks that were run.
@@ -42,7 +42,7 @@ impl Tally {
             done: 0,
             refused: 0,
             place: 0,
-            first: 0,
+            reason: 0,
             length: 0,
         }
     }
@@ -57,16 +57,16 @@ impl Tally {
                 done: self.done + 1,
                 refused: self.refused,
                 place: self.place,
-                first: self.first,
+                reason: self.reason,
                 length: self.length,
             };
         }
-        if self.first == 0 {
+        if self.reason == 0 {
             return Tally {
                 done: self.done,
                 refused: self.refused + 1,
                 place: self.done + self.refused + 1,
-                first: number,
+                reason: number,
                 length: self.length,
             };
         }
@@ -74,7 +74,7 @@ impl Tally {
             done: self.done,
             refused: self.refused + 1,
             place: self.place,
-            first: self.first,
+            reason: self.reason,
             length: self.length,
         }
     }
@@ -90,7 +90,7 @@ impl Tally {
             done: self.done,
             refused: self.refused,
             place: self.place,
-            first: self.first,
+            reason: self.reason,
             length: n,
         }
     }
@@ -167,7 +167,7 @@ fn run_frame(
     header: usize,
     from: usize,
 ) -> Answer
-    requires { ⌜ Parted s (now m) (now out) (now t) header from ⌝ }
+    requires { ⌜ Framed s (now m) (now out) (now t) header from ⌝ }
     ensures { λ r. ⌜ outcome r (now (m .exit)) (now (out .exit)) ≡ runFrame s (now (m .entry)) (now (out .entry)) (frame (part header from (now (t .entry))) (blocksAt (now (t .entry)) from)) ⌝ }
 {
     if !addressed(&t[header..from], s.own, s.address) {

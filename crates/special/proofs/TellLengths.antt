@@ -27,10 +27,10 @@ tell-length : (b : Board) (label : ℕ) → length (tell b label) ≤ length (b 
 unfolding tell tellTime tellDate tellSpeaker tellPool inDecimal2 inHex4
 tell-length b label =
     choice P (label is TIME) (λ e. omega arith) (λ e.
-    choice P (label is SPEAKER) (λ e. choice P (b .set .speaker is ON) (λ e. omega arith) (λ e. omega arith)) (λ e.
+    choice P (label is SPEAKER) (λ e. choice P (b .settings .speaker is ON) (λ e. omega arith) (λ e. omega arith)) (λ e.
     choice P (label is FORMAT) (λ e. omega arith) (λ e.
     choice P (label is DATE) (λ e. omega arith) (λ e.
-    choice P (label is CONFIGURATION) (λ e. omega (arith, heads-length (b .set .files) (b .memory))) (λ e. omega arith)))))
+    choice P (label is CONFIGURATION) (λ e. omega (arith, heads-length (b .settings .files) (b .memory))) (λ e. omega arith)))))
   where
     P : List ℕ → Type 0
     P l = length l ≤ length (b .memory) + 31

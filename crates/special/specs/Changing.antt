@@ -1,4 +1,4 @@
--- What the inner functions answer: for their contracts only.
+-- For contracts of inner functions only: what a special function answers.
 use Rattle.board.specs.declared.Settings.{Settings}
 use Rattle.effects.specs.Leaving.{doneAs}
 use Rattle.effects.specs.declared.Done.{Done}

@@ -11,5 +11,5 @@ use Rattle.effects.specs.Effects.{Board, board, Effect, done, refuse}
 unfoldable pub configure : Board → List ℕ → Effect
 configure b d =
     let n : ℕ = refusal d (length (b .memory)) in
-    if n is 0 then done (board (withFiles (b .set) (recordsIn d)) (laid (recordsIn d) (length (b .memory)) d))
+    if n is 0 then done (board (withFiles (b .settings) (recordsIn d)) (laid (recordsIn d) (length (b .memory)) d))
     else refuse n b

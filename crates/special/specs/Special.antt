@@ -74,7 +74,7 @@ setDate s d =
 unfoldable pub setAddress : Settings → List ℕ → Change
 setAddress s d = if length d is 2 && isCarried2 d then To (withAddress s (carried2 d)) else Malformed
 
--- "a command to set the serial address", right or not
+-- a command to set the serial address, right or not
 abbrev pub setsAddress : ℕ → List ℕ → Bool
 setsAddress c d = c is E && d ! 0 is ADDRESS
 
@@ -97,7 +97,7 @@ change b Unknown = refuse 21 b
 -- E: "a known command without its label is 22"
 unfoldable pub writeSpecial : Board → List ℕ → Effect
 writeSpecial b [] = refuse 22 b
-writeSpecial b (label ∷ d) = if label is CONFIGURATION then configure b d else change b (setBy (b .set) label d)
+writeSpecial b (label ∷ d) = if label is CONFIGURATION then configure b d else change b (setBy (b .settings) label d)
 
 -- ""00" speaker on, "FF" off"
 unfoldable pub tellSpeaker : Settings → List ℕ
@@ -105,7 +105,7 @@ tellSpeaker s = if s .speaker is ON then ZERO ∷ ZERO ∷ [] else F ∷ F ∷ [
 
 -- ""#" gives POOL,pool, total and unused, four hex digits each"
 unfoldable pub tellPool : Board → List ℕ
-tellPool b = inHex4 (length (b .memory)) ++ (COMMA ∷ inHex4 (unused (b .set .files) (b .memory)))
+tellPool b = inHex4 (length (b .memory)) ++ (COMMA ∷ inHex4 (unused (b .settings .files) (b .memory)))
 
 -- the time and the date, as they are set
 unfoldable pub tellTime : Settings → List ℕ
@@ -121,14 +121,14 @@ isTold label = label is TIME || label is SPEAKER || label is FORMAT || label is 
 -- "Replies use the layouts above"
 unfoldable pub tell : Board → ℕ → List ℕ
 tell b label =
-    if label is TIME then tellTime (b .set)
-    else if label is SPEAKER then tellSpeaker (b .set)
-    else if label is FORMAT then b .set .format ∷ []
-    else if label is DATE then tellDate (b .set)
-    else if label is CONFIGURATION then heads (filesOf (b .set .files) (b .memory))
+    if label is TIME then tellTime (b .settings)
+    else if label is SPEAKER then tellSpeaker (b .settings)
+    else if label is FORMAT then b .settings .format ∷ []
+    else if label is DATE then tellDate (b .settings)
+    else if label is CONFIGURATION then heads (filesOf (b .settings .files) (b .memory))
     else tellPool b
 
--- F: 21 "unknown function label"; "without data", else 22; the write code of its reply is E
+-- F: 21 "unknown .. function label"; "without data", else 22; the write code of its reply is E
 unfoldable pub readSpecial : Board → List ℕ → Effect
 readSpecial b [] = refuse 22 b
 readSpecial b (label ∷ d) =

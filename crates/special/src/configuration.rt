@@ -2,9 +2,9 @@
 use board::Settings;
 use board::files::RECORD;
 use effects::Done;
-use effects::effects::quiet;
-use records::records::lay;
-use records::records::refusal;
+use effects::quiet;
+use records::lay;
+use records::refusal;
 ghost use mathlib.Core.Path.{_≡_};
 ghost use mathlib.Core.Bool.{true};
 ghost use Rattle.board.specs.Soundness.{sound};

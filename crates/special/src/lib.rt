@@ -2,7 +2,10 @@
 use board::Settings;
 
 mod configuration;
-pub mod special;
+mod special;
+
+pub use crate::special::read_special;
+pub use crate::special::write_special;
 
 // What a special function makes of the settings: others; none, since its data are malformed; or there is no such function.
 pub enum Change {

@@ -7,11 +7,6 @@ use sign::Answer;
 ghost use Prim.Native.Nat.{_+_, _≤_};
 ghost use lib.ListN.{length};
 
-// a board of 1,024 bytes, and its reply buffer
-const MEMORY: usize = 1024;
-
-const REPLY: usize = 1088;
-
 // each notice's file takes an 11-byte record and 32 bytes of content
 const PITCH: usize = 43;
 

@@ -10,13 +10,14 @@ use lib.ListN.{length, drop, length-take, length-drop}
 use Rattle.octets.specs.Bytes.{TRANSLATED, BLOCKS}
 use Rattle.octets.proofs.Tests.{never}
 use Rattle.body.specs.Body.{Block, block, Body, badBody, body, prepend, blocks, isRead, hasRead}
-use Rattle.body.specs.Steps.{part, foundAt, isBody, blocksIn, bodyAt, blocksAt}
+use Rattle.body.specs.Steps.{foundAt}
+use Rattle.body.specs.Walking.{part, isBody, blocksIn, bodyAt, blocksAt}
 use Rattle.body.specs.declared.BlockStep.{BlockStep}
 use Rattle.body.specs.declared.BlockStep.the-variants.{Stray, More, Last}
 use Rattle.body.proofs.BlockLoops.{blocks-stray, blocks-last, blocks-more, blocks-none, more-ordered, more-inside, last-ordered, last-inside}
 use Rattle.writing.specs.Reforming.{allRight}
 use Rattle.forms.specs.Pieces.{FAR, Puts, encode, piece, pieces}
-use Rattle.writing.specs.Sources.{SPAN, SPREAD, Ready}
+use Rattle.writing.specs.Sources.{SPAN, SPREAD, Puttable}
 use Rattle.forms.proofs.Puttings.{puts-long, joined, piece-near}
 
 -- ---- what is left
@@ -193,7 +194,7 @@ pub record Placing (o : List ℕ) (place form : ℕ) (first : Bool) (s : List �
   pub onward : {o₂ : List ℕ} {n : ℕ} → Puts o₁ next (encode form (pieces form begun (rest s at left))) o₂ n
       → Puts o place (encode form (pieces form first (blocksAt s from))) o₂ n
 
-pub place-start : (o : List ℕ) (place form : ℕ) (first : Bool) (s : List ℕ) (from : ℕ) → Ready place s from → Placing o place form first s from o from 64 first place
+pub place-start : (o : List ℕ) (place form : ℕ) (first : Bool) (s : List ℕ) (from : ℕ) → Puttable place s from → Placing o place form first s from o from 64 first place
 place-start o place form first s from e =
     record {
       good = good-start s from (e .source .good);

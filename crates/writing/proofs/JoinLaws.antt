@@ -8,7 +8,7 @@ use borrow.Author.Tests.{not-true, not-false}
 use lib.ListN.{take}
 use Rattle.octets.specs.Choice.{same}
 use Rattle.body.specs.Body.{Block, hasRead}
-use Rattle.body.specs.Steps.{part, bodyAt, blocksAt}
+use Rattle.body.specs.Walking.{part, bodyAt, blocksAt}
 use Rattle.reading.specs.Reading.{frame, read}
 use Rattle.reading.specs.Places.{Reads}
 use Rattle.reading.specs.declared.Read.{Read}

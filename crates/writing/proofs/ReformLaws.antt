@@ -8,7 +8,7 @@ use borrow.Author.Needs.{needs}
 use borrow.Author.Tests.{not-true, not-false}
 use lib.ListN.{take}
 use Rattle.body.specs.Body.{Block}
-use Rattle.body.specs.Steps.{part, blocksAt}
+use Rattle.body.specs.Walking.{part, blocksAt}
 use Rattle.reading.specs.Reading.{Reading, frame, read}
 use Rattle.reading.specs.Places.{Reads}
 use Rattle.reading.specs.declared.Read.{Read}

@@ -2,7 +2,7 @@
 use mathlib.Core.Path.{_≡_, sym, ap, ap₂, _∙_}
 use mathlib.Core.Bool.{true, false}
 use mathlib.Core.List.{List, [], _∷_, _++_, append-nil, append-assoc}
-use Prim.Native.Nat.{ℕ, _+_, _*_, _<_, _≤_}
+use Prim.Native.Nat.{ℕ, _+_, _*_, _≤_}
 use mir.Syntax.{w64}
 use mir.Val.{Fits}
 use native.Mathlib.Nat.{zero-add}
@@ -17,13 +17,13 @@ use Rattle.octets.specs.Buffer.{zeros, overlay}
 use Rattle.octets.specs.Bytes.{EOT, TRANSLATED}
 use Rattle.octets.proofs.Tests.{compare, by-test, never}
 use Rattle.body.specs.Body.{Block, block, Body, badBody, body, blocks}
-use Rattle.body.specs.Steps.{part, isBody, blocksIn, bodyAt, blocksAt}
+use Rattle.body.specs.Walking.{part, isBody, blocksIn, bodyAt, blocksAt}
 use Rattle.body.proofs.Taken.{anything, all-anything, Blocks, BodyOf, blocks-of}
 use Rattle.writing.specs.declared.Written.{Written}
 use Rattle.forms.specs.Forms.{nuls, bodyIn, formOf, render}
 use Rattle.writing.specs.Output.{isOver, output, writtenAs, delivered, putNumber, put}
 use Rattle.forms.specs.Pieces.{Puts, encode, piece, pieces, heading, headed}
-use Rattle.writing.specs.Sources.{SPREAD, Source, Ready, Parted, Pair}
+use Rattle.writing.specs.Sources.{SPREAD, Source, Puttable, Parted, Pair}
 use Rattle.writing.specs.Sources.{standardForm, longest, fitNumber}
 use Rattle.forms.proofs.PieceLaws.{pieces-append, render-headed}
 use Rattle.forms.proofs.Puttings.{puts-as, joined, heading-near}
@@ -48,7 +48,7 @@ module _ {s : List ℕ} {i from : ℕ} (g : Parted s i from) where
   part-short = simp (length-take, length-drop) (omega (arith, g .source .short))
 
   module _ {o o₁ : List ℕ} {a : ℕ} (form : ℕ) (p : Puts o 0 (encode form (heading form (part i from s))) o₁ a) where
-    pub headed-ready : Ready a s from
+    pub headed-ready : Puttable a s from
     headed-ready = record { source = g .source; near = omega (arith, heading-near form (part i from s) p, part-short) }
 
     pub headed-near : {n : ℕ} → n ≤ a + SPREAD → n ≤ 2 * SPREAD
@@ -94,7 +94,7 @@ module _ {s : List ℕ} {i from : ℕ} {t : List ℕ} {place : ℕ} (g : Pair s 
       (rw length-append (omega (arith, blocks-good (g .first .source) .some))) q p
 
   -- the second's blocks stand behind the first's
-  pub joined-ready : (a : ℕ) → a ≤ 2 * SPREAD → Ready a t place
+  pub joined-ready : (a : ℕ) → a ≤ 2 * SPREAD → Puttable a t place
   joined-ready a h = record { source = g .second; near = omega arith }
 
   pub joined-first : bodyAt s from ≡ true

@@ -32,16 +32,16 @@ abbrev pub writtenAs : ℕ → ℕ → Written
 writtenAs n k = record { number = n; length = k }
 
 -- number, length, output buffer
-abbrev pub answers : ℕ → ℕ → List ℕ → Output
-answers n k o = output (writtenAs n k) o
+abbrev pub outputAs : ℕ → ℕ → List ℕ → Output
+outputAs n k o = output (writtenAs n k) o
 
--- "output untouched, length 0"
+-- "output .. untouched, length 0"
 abbrev pub unwritten : ℕ → List ℕ → Output
-unwritten n o = answers n 0 o
+unwritten n o = outputAs n 0 o
 
 -- "The result starts the output buffer; the rest of it is untouched; its length is returned."
 abbrev pub delivered : List ℕ → List ℕ → Output
-delivered result o = answers 0 (length result) (overlay o result)
+delivered result o = outputAs 0 (length result) (overlay o result)
 
 -- "18, 14" for blocks under a header in a form, in so much room: 14 "output buffer too short"; 0 where they are put
 unfoldable pub putNumber : ℕ → List ℕ → List Block → ℕ → ℕ

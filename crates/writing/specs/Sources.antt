@@ -1,4 +1,4 @@
--- What the inner functions need and answer: for their contracts only.
+-- For contracts of inner functions only: what they need of a frame that was read, and what they answer.
 use Prim.Native.Nat.{ℕ, _+_, _*_, _≤_}
 use mathlib.Core.Path.{_≡_}
 use mathlib.Core.Bool.{true, _||_}
@@ -6,7 +6,7 @@ use mathlib.Core.List.{List}
 use lib.ListN.{length}
 use Rattle.octets.specs.Choice.{if_then_else_, _is_, _<?_}
 use Rattle.octets.specs.Bytes.{TRANSLATED, BLOCKS}
-use Rattle.body.specs.Steps.{bodyAt}
+use Rattle.body.specs.Walking.{bodyAt}
 
 -- a block takes no more room: three bytes for each of its data, 8,192 at most, and for each of the eight about them
 abbrev pub SPAN : ℕ
@@ -22,7 +22,7 @@ pub record Source (s : List ℕ) (from : ℕ) : Type 0 where
   pub short : length s ≤ TRANSLATED
 
 -- a good body that is to be put from a place on
-pub record Ready (place : ℕ) (s : List ℕ) (from : ℕ) : Type 0 where
+pub record Puttable (place : ℕ) (s : List ℕ) (from : ℕ) : Type 0 where
   pub source : Source s from
   pub near : place ≤ 2 * SPREAD
 

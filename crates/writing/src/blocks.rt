@@ -2,8 +2,8 @@
 use body::BlockStep;
 use body::judging::is_read;
 use body::reader::step_from;
-use forms::forms::put_heading;
-use forms::forms::put_piece;
+use forms::put_heading;
+use forms::put_piece;
 use octets::bytes::BLOCKS;
 ghost use mathlib.Core.Path.{_≡_};
 ghost use mathlib.Core.Bool.{true};
@@ -11,9 +11,9 @@ ghost use Prim.Native.Nat.{_+_, _*_, _≤_};
 ghost use lib.ListN.{length};
 ghost use Rattle.writing.specs.Reforming.{allRight};
 ghost use Rattle.body.specs.Body.{hasRead};
-ghost use Rattle.body.specs.Steps.{part, bodyAt, blocksAt};
+ghost use Rattle.body.specs.Walking.{part, bodyAt, blocksAt};
 ghost use Rattle.forms.specs.Pieces.{Puts, encode, pieces, headed};
-ghost use Rattle.writing.specs.Sources.{SPREAD, Ready, Parted};
+ghost use Rattle.writing.specs.Sources.{SPREAD, Puttable, Parted};
 
 // How many blocks there are.
 pub fn count_blocks(s: &[u8], from: usize) -> usize
@@ -123,7 +123,7 @@ pub fn put_blocks(
     s: &[u8],
     from: usize,
 ) -> usize
-    requires { ⌜ Ready place (now s) from ⌝ }
+    requires { ⌜ Puttable place (now s) from ⌝ }
     ensures { λ r. ⌜ Puts (now (out .entry)) place (encode form (pieces form first (blocksAt (now (s .entry)) from))) (now (out .exit)) r ⌝ }
     ensures { λ r. ⌜ r ≤ place + SPREAD ⌝ }
 {

@@ -4,7 +4,9 @@ pub mod joining;
 pub mod numbers;
 mod output;
 pub mod reforming;
-pub mod writing;
+mod writing;
+
+pub use crate::writing::write;
 
 // What writing, re-forming and joining answer. C lays it out alike.
 #[repr(C)]

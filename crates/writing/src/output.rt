@@ -2,7 +2,7 @@
 use crate::Written;
 use crate::numbers::NO_ROOM;
 use crate::numbers::TOO_LONG;
-use forms::forms::PRINTABLE_FORM;
+use forms::PRINTABLE_FORM;
 use octets::bytes::BLOCKS;
 use octets::bytes::TRANSLATED;
 ghost use mathlib.Core.Path.{_≡_};

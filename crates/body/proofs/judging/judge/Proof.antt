@@ -11,8 +11,8 @@ abbrev μ-loop : tie.MeasureT-loop
 loop-holds : tie.Need-loop-holds Inv-loop μ-loop
 loop-holds c = search judging
 
-block-at-requires : tie.Need-block-at-requires Inv-loop μ-loop
-block-at-requires c κs = search judging
+step-from-requires : tie.Need-step-from-requires Inv-loop μ-loop
+step-from-requires c κs = search judging
 
 enum-told : tie.Need-enum-told Inv-loop μ-loop
 enum-told c = search judging
@@ -60,7 +60,7 @@ judge-spec =
     Inv-loop
     μ-loop
     loop-holds
-    block-at-requires
+    step-from-requires
     enum-told
     returns
     enum-told-2

@@ -1,0 +1,51 @@
+-- What every command keeps: a sound board sound, every byte of a file that it does not name, and the board where it is refused.
+use Prim.Native.Nat.{ℕ, _+_, _≤_}
+use mathlib.Core.Path.{_≡_}
+use mathlib.Core.List.{List, []}
+use mathlib.Core.Bool.{Bool, true, false, _&&_, _||_}
+use lib.ListN.{length, getD}
+use Rattle.octets.specs.Choice.{_is_, _!_, all}
+use Rattle.octets.specs.Bytes.{A, E, G, isPlain}
+use Rattle.body.specs.Body.{isRead}
+use Rattle.board.specs.Files.{File, filesOf}
+use Rattle.board.specs.Soundness.{holdsFiles, sound}
+use Rattle.effects.specs.Effects.{Board, Effect}
+use Rattle.special.specs.Special.{CONFIGURATION, setsAddress}
+
+-- a sound board
+abbrev pub Sound : Board → Type 0
+Sound b = sound (b .settings) (b .memory) ≡ true
+
+-- a board whose memory holds its files as it has to
+abbrev pub Holds : Board → Type 0
+Holds b = holdsFiles (b .settings .files) (b .memory) ≡ true
+
+-- the file at place k, counted from 0; a file that is missing counts as one without bytes
+abbrev pub fileIn : List File → ℕ → File
+fileIn fs k = getD fs k (record { head = []; body = [] })
+
+-- the file of a board at place k
+abbrev pub fileOf : Board → ℕ → File
+fileOf b k = fileIn (filesOf (b .settings .files) (b .memory)) k
+
+-- they replace all files
+abbrev pub configures : ℕ → List ℕ → Bool
+configures c d = c is E && d ! 0 is CONFIGURATION
+
+-- they may write to memory
+abbrev pub writes : ℕ → List ℕ → Bool
+writes c d = configures c d || c is A || c is G
+
+-- what an effect of a command with these data keeps
+pub record Effects (b : Board) (c : ℕ) (d : List ℕ) (e : Effect) : Type 0 where
+  pub own : e .after .settings .own ≡ b .settings .own
+  pub long : length (e .after .memory) ≡ length (b .memory)
+  pub sound : all isPlain d ≡ true → Sound b → Sound (e .after)
+  pub address : setsAddress c d ≡ false → e .after .settings .address ≡ b .settings .address
+  pub files : configures c d ≡ false → e .after .settings .files ≡ b .settings .files
+  pub memory : writes c d ≡ false → e .after .memory ≡ b .memory
+  pub others : configures c d ≡ false → all isPlain d ≡ true → Holds b →
+      (k : ℕ) → (fileOf b k .head ! 0 ≡ d ! 0 → ⊥) → fileOf (e .after) k ≡ fileOf b k
+  pub refused : (e .number ≡ 0 → ⊥) → (e .after ≡ b) × (e .reply ≡ [])
+  pub quiet : isRead c ≡ false → e .reply ≡ []
+  pub fits : length (e .reply) ≤ length (b .memory) + 64

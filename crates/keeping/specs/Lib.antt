@@ -1,0 +1,2 @@
+-- What every command keeps.
+pub mod Keeping
