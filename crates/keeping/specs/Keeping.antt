@@ -28,24 +28,29 @@ fileIn fs k = getD fs k (record { head = []; body = [] })
 abbrev pub fileOf : Board → ℕ → File
 fileOf b k = fileIn (filesOf (b .settings .files) (b .memory)) k
 
--- they replace all files
+-- a command with these data replaces all files: E "$"
 abbrev pub configures : ℕ → List ℕ → Bool
 configures c d = c is E && d ! 0 is CONFIGURATION
 
--- they may write to memory
+-- it may write to memory: E "$", A, G
 abbrev pub writes : ℕ → List ℕ → Bool
 writes c d = configures c d || c is A || c is G
 
 -- what an effect of a command with these data keeps
 pub record Effects (b : Board) (c : ℕ) (d : List ℕ) (e : Effect) : Type 0 where
+  -- own type and memory's length stay, and a sound board stays sound
   pub own : e .after .settings .own ≡ b .settings .own
   pub long : length (e .after .memory) ≡ length (b .memory)
   pub sound : all isPlain d ≡ true → Sound b → Sound (e .after)
+  -- the address, the number of files and memory stay where the command is not one that sets them
   pub address : setsAddress c d ≡ false → e .after .settings .address ≡ b .settings .address
   pub files : configures c d ≡ false → e .after .settings .files ≡ b .settings .files
   pub memory : writes c d ≡ false → e .after .memory ≡ b .memory
+  -- a file of another label keeps every byte, of its record and of its content
   pub others : configures c d ≡ false → all isPlain d ≡ true → Holds b →
       (k : ℕ) → (fileOf b k .head ! 0 ≡ d ! 0 → ⊥) → fileOf (e .after) k ≡ fileOf b k
+  -- refused: the board as it was, and no reply
   pub refused : (e .number ≡ 0 → ⊥) → (e .after ≡ b) × (e .reply ≡ [])
+  -- only a read replies, and its reply has room in the shortest reply buffer
   pub quiet : isRead c ≡ false → e .reply ≡ []
   pub fits : length (e .reply) ≤ length (b .memory) + 64

@@ -109,7 +109,7 @@ place-none (x ∷ xs) e =
     (λ q. let z : reasonIn xs ≡ 0 = rw q at e in simp (q, eq-eqb (reasonIn xs) 0 z))
     (λ q. absurd (eqb-false x 0 q (rw q at e)))
 
--- ---- counts are those of the blockNumbers
+-- ---- counts are those of the numbers
 
 -- a block in front of others
 counts-one : (n : ℕ) (u : Tally) (ns : List ℕ) → Counts u ns → Counts (plus (count nothing n) u) (n ∷ ns)

@@ -1,4 +1,4 @@
--- "each is the number of blocks of that outcome": the counts of a run by the blockNumbers of its blocks.
+-- "each is the number of blocks of that outcome": the counts of a run by the numbers of its blocks.
 use Prim.Native.Nat.{ℕ, suc}
 use mathlib.Core.Path.{_≡_}
 use mathlib.Core.List.{List, [], _∷_}
@@ -33,7 +33,7 @@ unfoldable pub placeIn : List ℕ → ℕ
 placeIn [] = 0
 placeIn (x ∷ xs) = if x is 0 then (if reasonIn xs is 0 then 0 else suc (placeIn xs)) else 1
 
--- counts of blocks with these blockNumbers
+-- counts of blocks with these numbers
 pub record Counts (t : Tally) (ns : List ℕ) : Type 0 where
   pub done : t .done ≡ doneIn ns
   pub refused : t .refused ≡ refusedIn ns

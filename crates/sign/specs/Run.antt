@@ -17,7 +17,7 @@ use Rattle.sign.specs.declared.Answer.{Answer}
 
 -- "blocks done, blocks refused, the place (from 1) and number of the first refused block, .. and the reply's length"
 abbrev pub tally : ℕ → ℕ → ℕ → ℕ → ℕ → Tally
-tally d r p f n = record { done = d; refused = r; place = p; reason = f; length = n }
+tally d r p w n = record { done = d; refused = r; place = p; reason = w; length = n }
 
 -- "both 0 if none"
 abbrev pub nothing : Tally
