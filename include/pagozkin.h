@@ -1,5 +1,5 @@
 /* Pagozkin: what the board's firmware calls, for C99 and C++. The library is libport.a; its calls are proved.
- * The words in quotation marks are those of the definition of the build.
+ * The words in quotation marks are those of the definition of the build and of the requests that changed it.
  *
  * What C must see to, in every call:
  * - a pointer is valid for as many bytes as the length behind it says (a length of 0 asks nothing of its pointer);
@@ -18,10 +18,11 @@
 extern "C" {
 #endif
 
-/* The version of header and library: a changed struct, number or call changes the first part, an added one the second part. */
+/* The version of header and library: a changed struct, number or call changes the first part, an added one the second part;
+ * where only what a call answers has changed, the third. */
 #define PAGOZKIN_VERSION_MAJOR 1
 #define PAGOZKIN_VERSION_MINOR 0
-#define PAGOZKIN_VERSION_PATCH 0
+#define PAGOZKIN_VERSION_PATCH 1
 
 /* Marks every call: an answer that is thrown away hides a refusal, and a compiler that can shall warn of it. */
 #if defined(__GNUC__) || defined(__clang__)
@@ -97,13 +98,15 @@ enum {
 };
 
 /* "Settings travel as one record, handed in and handed back". The library keeps no clock: between runs the firmware's clock writes
- * hour, minute, month, day and year here, these alone and each in its range; out of it the next run answers 1. */
+ * hour, minute, month, day and year here, these alone and so that time and date exist; else the next run answers 1.
+ * Settings that were kept by version 1.0.0 may hold a date such as 31 February. Every run answers 1 then, one that would set the date
+ * too: ask pagozkin_is_sound at the start, and write a date that exists here. */
 typedef struct pagozkin_settings {
     uint8_t hour;    /* 0 to 23 */
     uint8_t minute;  /* 0 to 59 */
     uint8_t month;   /* "month 01 to 12" */
-    uint8_t day;     /* "day 01 to 31" */
-    uint8_t year;    /* 0 to 99 */
+    uint8_t day;     /* 1 to the month's last, "with 29 February in each year divisible by four" */
+    uint8_t year;    /* 0 to 99, "years being 2000 to 2099" */
     uint8_t format;  /* time format, "S" or "M" */
     uint8_t speaker; /* 1 on, 0 off */
     uint8_t address; /* serial address, "Any address 00 to FF is in range." */

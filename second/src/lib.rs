@@ -1,6 +1,8 @@
-//! A second implementation of the sign board of document 01, written from
-//! that document alone, to be compared case by case with another one.
+//! A second implementation of the sign board of document 01 and of request 1
+//! of document 02, written from these documents alone, to be compared case by
+//! case with another one.
 //!
+//! Days and months, by themselves: [`dates`].
 //! The frame layer: [`translation`], [`lead`], [`header`], [`body`], [`sum`],
 //! [`frame`], [`forms`], [`writing`], [`reforming`], [`joining`].
 //! The sign layer: [`settings`], [`record`], [`files`], [`soundness`],
@@ -13,6 +15,7 @@ pub mod bytes;
 pub mod cases;
 pub mod commands;
 pub mod configuration;
+pub mod dates;
 pub mod files;
 pub mod forms;
 pub mod frame;

@@ -1,6 +1,7 @@
 //! "Settings travel as one record, handed in and handed back: time, date, time
 //! format, speaker, serial address, own type, number of files."
 
+use crate::dates::{exists, FIRST_YEAR};
 use crate::hex::{byte_value, frame_digit};
 
 pub const STANDARD_FORMAT: u8 = b'S';
@@ -91,7 +92,8 @@ impl Settings {
         })
     }
 
-    /// "";": six digits MmDdYy, month 01 to 12, day 01 to 31."
+    /// "";": six digits MmDdYy", of a date that exists. Request 1: "A date that
+    /// breaks this is malformed."
     pub fn with_date(self, data: &[u8]) -> Option<Settings> {
         let [month, day, year] = decimal_pairs(data)?;
         is_date(month, day, year).then_some(Settings {
@@ -161,9 +163,15 @@ pub fn is_time(hour: u8, minute: u8) -> bool {
     hour <= 23 && minute <= 59
 }
 
-/// "month 01 to 12, day 01 to 31", and a year of two digits.
+/// "Set Date and the soundness of a board are to use true month lengths".
 pub fn is_date(month: u8, day: u8, year: u8) -> bool {
-    (1..=12).contains(&month) && (1..=31).contains(&day) && year <= 99
+    exists(full_year(year), month, day)
+}
+
+/// "years being 2000 to 2099": 00 is the first of them. A field of the record
+/// can also hold a year beyond 99, which lies behind the last.
+pub fn full_year(year: u8) -> u16 {
+    FIRST_YEAR + u16::from(year)
 }
 
 /// ""S" or "M"".

@@ -23,7 +23,8 @@ pub fn is_memory_length(length: usize) -> bool {
     (LEAST_MEMORY..=MOST_MEMORY).contains(&length)
 }
 
-/// "time, date, speaker, format, type are in range"; "It holds 0 to 64 files".
+/// "time, date, speaker, format, type are in range", a date being one that
+/// exists; "It holds 0 to 64 files".
 fn settings_are_in_range(settings: Settings) -> bool {
     is_time(settings.hour, settings.minute)
         && is_date(settings.month, settings.day, settings.year)

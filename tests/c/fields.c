@@ -1,5 +1,5 @@
 /* Each field of each struct of pagozkin.h, by name, after calls that give every field of a struct another value;
- * what a read leaves in its room; and each call with empty slices. */
+ * dates that exist and dates that do not; what a read leaves in its room; and each call with empty slices. */
 #include "expect.h"
 
 #include <pagozkin.h>
@@ -67,6 +67,32 @@ static void runs(void)
     IS(a.tally.done, 0);
     IS(a.settings.hour, 24);
     IS(a.settings.minute, 34);
+}
+
+/* Month, day, year: on a board handed in, and in the command on a fresh board. */
+static void dates(void)
+{
+    static const struct {
+        uint8_t month, day, year, exists;
+        const char *sent;
+    } each[] = {
+        {2, 31, 26, 0, "_01Z00_02E;023126_04"},
+        {2, 29, 0, 1, "_01Z00_02E;022900_04"},
+        {2, 29, 99, 0, "_01Z00_02E;022999_04"},
+        {12, 31, 99, 1, "_01Z00_02E;123199_04"},
+    };
+    for (size_t i = 0; i < sizeof each / sizeof each[0]; i++) {
+        pagozkin_settings s = board();
+        pagozkin_answer a = pagozkin_run(s, memory, MEMORY, reply, sizeof reply, (const uint8_t *)each[i].sent, strlen(each[i].sent));
+        IS(a.number, PAGOZKIN_DONE);
+        IS(a.tally.done, each[i].exists);
+        IS(a.tally.reason, each[i].exists ? 0 : PAGOZKIN_BLOCK_MALFORMED);
+        IS(a.settings.day, each[i].exists ? each[i].day : s.day);
+        s.month = each[i].month;
+        s.day = each[i].day;
+        s.year = each[i].year;
+        is("a board of that date", pagozkin_is_sound(s, memory, MEMORY), each[i].exists);
+    }
 }
 
 static void writes(void)
@@ -165,6 +191,7 @@ static void empties(void)
 int main(void)
 {
     runs();
+    dates();
     writes();
     reads();
     rooms();

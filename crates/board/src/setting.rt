@@ -1,10 +1,12 @@
 // "Settings travel as one record, handed in and handed back": a method for each special function returns the next settings.
 use crate::Settings;
+use dates::calendar::FIRST_YEAR;
+use dates::calendar::is_date;
 use frame::is_own_type;
 ghost use mathlib.Core.Path.{_≡_};
 ghost use mathlib.Core.Bool.{_&&_, _||_};
-ghost use Rattle.octets.specs.Choice.{_is_, _≤?_, between};
-ghost use Rattle.board.specs.Settings.{FORMAT-S, FORMAT-M, OFF, ON, inRange, withTime, withDate, withFormat, withSpeaker, withAddress, withFiles};
+ghost use Rattle.octets.specs.Choice.{_is_, _≤?_};
+ghost use Rattle.board.specs.Settings.{FORMAT-S, FORMAT-M, OFF, ON, inDate, inRange, withTime, withDate, withFormat, withSpeaker, withAddress, withFiles};
 
 // time formats "S" and "M"
 pub const FORMAT_S: u8 = 0x53;
@@ -20,12 +22,6 @@ pub const ON: u8 = 1;
 const LAST_HOUR: u8 = 23;
 
 const LAST_MINUTE: u8 = 59;
-
-const LAST_MONTH: u8 = 12;
-
-const LAST_DAY: u8 = 31;
-
-const LAST_YEAR: u8 = 99;
 
 impl Settings {
     pub fn with_time(self, hour: u8, minute: u8) -> Settings
@@ -80,13 +76,6 @@ impl Settings {
     }
 }
 
-// low to high, both counted
-fn is_between(low: u8, high: u8, x: u8) -> bool
-    ensures { λ r. ⌜ r ≡ between low high x ⌝ }
-{
-    low <= x && x <= high
-}
-
 // "00:00 to 23:59"
 pub fn in_time(hour: u8, minute: u8) -> bool
     ensures { λ r. ⌜ r ≡ (hour ≤? 23 && minute ≤? 59) ⌝ }
@@ -94,11 +83,11 @@ pub fn in_time(hour: u8, minute: u8) -> bool
     hour <= LAST_HOUR && minute <= LAST_MINUTE
 }
 
-// "month 01 to 12, day 01 to 31"
-pub fn in_date(month: u8, day: u8) -> bool
-    ensures { λ r. ⌜ r ≡ (between 1 12 month && between 1 31 day) ⌝ }
+// "true month lengths, years being 2000 to 2099"
+pub fn in_date(month: u8, day: u8, year: u8) -> bool
+    ensures { λ r. ⌜ r ≡ inDate month day year ⌝ }
 {
-    is_between(1, LAST_MONTH, month) && is_between(1, LAST_DAY, day)
+    is_date(FIRST_YEAR + year as u16, month, day)
 }
 
 // ""S" or "M""
@@ -122,10 +111,7 @@ pub fn in_range(s: Settings) -> bool
     if !in_time(s.hour, s.minute) {
         return false;
     }
-    if !in_date(s.month, s.day) {
-        return false;
-    }
-    if LAST_YEAR < s.year {
+    if !in_date(s.month, s.day, s.year) {
         return false;
     }
     if !is_format(s.format) {

@@ -1,14 +1,19 @@
--- Every number is answered where the table says so and not by its neighbour; every witness shows what it should. By computing.
+-- Every number is answered where the tables say so and not by its neighbour; every witness shows what it should. By computing.
 use mathlib.Core.Path.{_≡_, refl}
 use mathlib.Core.Bool.{true}
 use Rattle.sheet.specs.Sheet.{bytes, start, inTurn, onFresh}
 use Rattle.sheet.proofs.Computing.{base}
 use Rattle.cases.specs.Numbers.{numberOf, blockNumber, holds, allHold, times, numbersTable}
+use Rattle.cases.specs.Dates.{eachWay, datesTable}
 use Rattle.cases.specs.Witnesses.{AllShow, witnesses}
 
 pub numbers : allHold numbersTable ≡ true
 unfolding numberOf blockNumber holds allHold times numbersTable bytes start inTurn onFresh base
 numbers = refl
+
+pub dates : allHold datesTable ≡ true
+unfolding numberOf blockNumber holds allHold eachWay datesTable bytes start inTurn onFresh base
+dates = refl
 
 pub shown : AllShow witnesses
 unfolding witnesses bytes start inTurn onFresh base

@@ -1,20 +1,16 @@
 -- The special functions that set keep settings in range, and touch neither own type nor number of files;
 -- one alone sets the address.
-use Prim.Native.Nat.{ℕ, _+_, _≤_}
+use Prim.Native.Nat.{ℕ}
 use mathlib.Core.Path.{_≡_, refl, sym, _∙_}
 use mathlib.Core.List.{List}
 use mathlib.Core.Bool.{Bool, true, false, _&&_, _||_}
-use native.Mathlib.Omega.{arith}
 use lib.ListN.{length, drop}
-use lib.Seq.{getD-drop}
-use borrow.Author.Tests.{le-leb, leb-true}
-use Rattle.octets.specs.Choice.{_is_, _≤?_, between, _!_, all}
+use Rattle.octets.specs.Choice.{_is_, _≤?_, _!_, all}
 use Rattle.octets.specs.Carried.{isCarried2, carried2}
 use Rattle.octets.specs.Decimal.{isDecimal, decimal2}
 use Rattle.octets.specs.Bytes.{ZERO, F}
-use Rattle.octets.proofs.Tests.{compare, choice, never, split}
-use Rattle.octets.proofs.Lists.{all-at}
-use Rattle.board.specs.Settings.{FORMAT-S, FORMAT-M, OFF, ON, inRange}
+use Rattle.octets.proofs.Tests.{choice, never, split}
+use Rattle.board.specs.Settings.{FORMAT-S, FORMAT-M, OFF, ON, inDate, inRange}
 use Rattle.board.specs.declared.Settings.{Settings}
 use Rattle.board.proofs.Ranges.{time-ranged, date-ranged, format-ranged, speaker-ranged, address-ranged}
 use Rattle.special.specs.Special.{TIME, SPEAKER, FORMAT, DATE, ADDRESS, setTime, setSpeaker, setFormat, setDate, setAddress, setBy}
@@ -34,16 +30,6 @@ KeptBy moves s (To t) = Kept moves s t
 KeptBy moves s Malformed = Unit {0}
 KeptBy moves s Unknown = Unit {0}
 
-digit-at : (d : List ℕ) (k : ℕ) → all isDecimal d ≡ true → d ! k ≤ 0x39
-unfolding isDecimal
-digit-at d k e =
-    compare 0 (d ! k) (λ h. leb-true (d ! k) 0x39 (split (0x30 ≤? d ! k) (all-at isDecimal d k e h) .1)) (λ h. omega arith)
-
--- two decimal digits make a number up to 99
-pub decimal2-small : (d : List ℕ) (k : ℕ) → all isDecimal d ≡ true → decimal2 (drop k d) ≤ 99
-unfolding decimal2
-decimal2-small d k e = rw (getD-drop k d 0 0, getD-drop k d 1 0) (omega (arith, digit-at d (k + 0) e, digit-at d (k + 1) e))
-
 module _ (x : Bool) (s : Settings) (d : List ℕ) where
   -- setting the time
   pub time-keeps : KeptBy x s (setTime s d)
@@ -60,12 +46,10 @@ module _ (x : Bool) (s : Settings) (d : List ℕ) where
   pub date-keeps : KeptBy x s (setDate s d)
   unfolding setDate
   date-keeps =
-      choice (KeptBy x s) (length d is 6 && (all isDecimal d && (between 1 12 (decimal2 d) && between 1 31 (decimal2 (drop 2 d)))))
+      choice (KeptBy x s) (length d is 6 && (all isDecimal d && inDate (decimal2 d) (decimal2 (drop 2 d)) (decimal2 (drop 4 d))))
       (λ e.
-      let a = split (all isDecimal d) (split (length d is 6) e .1) in
-      let b = split (between 1 12 (decimal2 d)) (a .1) in
-      let y = le-leb (decimal2 (drop 4 d)) 99 (decimal2-small d 4 (a .0)) in
-      record { own = refl; files = refl; address = λ n. refl; ranged = λ g. date-ranged s g _ _ _ (b .0) (b .1) y })
+      let a = split (all isDecimal d) (split (length d is 6) e .1) .1 in
+      record { own = refl; files = refl; address = λ n. refl; ranged = λ g. date-ranged s g _ _ _ a })
       (λ e. tt)
 
   -- setting the time format

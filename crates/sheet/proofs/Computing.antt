@@ -1,4 +1,5 @@
 -- The definitions of the base, under one name.
+use Rattle.dates.specs.Calendar.{february, monthLength, isDate}
 use Rattle.board.specs.Settings.{inRange}
 use Rattle.board.specs.Files.{sizeOf, filesOf, heads, used, unused, labels, distinct, isAt, find}
 use Rattle.board.specs.Soundness.{isLabel, isKind, isProtection, isSize, isStartCode, isStopCode, isCodes, isRecord, isContent, isFileAt, holdsFiles, soundMemory, sound}
@@ -17,6 +18,7 @@ use Rattle.writing.proofs.Computing.{writes}
 unfoldable pub base : Unit {0}
 unfolding
     writes
+    february monthLength isDate
     inRange
     sizeOf filesOf heads used unused labels distinct isAt find
     isLabel isKind isProtection isSize isStartCode isStopCode isCodes isRecord isContent isFileAt holdsFiles soundMemory sound

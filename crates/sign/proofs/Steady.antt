@@ -20,6 +20,7 @@ use Rattle.board.specs.Settings.{FORMAT-S, OFF, settings, inRange}
 use Rattle.board.specs.Files.{filesOf, labels, distinct}
 use Rattle.board.specs.Soundness.{holdsFiles, isMemory, sound}
 use Rattle.board.specs.declared.Settings.{Settings}
+use Rattle.board.proofs.Ranges.{first-date}
 use Rattle.board.proofs.Contents.{zeros-nul}
 use Rattle.board.proofs.SoundParts.{whole, sound-whole}
 use Rattle.effects.specs.Effects.{board}
@@ -148,6 +149,6 @@ unfolding fresh inRange holdsFiles labels filesOf distinct
 fresh-sound t m =
     choice SoundIfMade (not (isOwnType t)) (λ e z. absurd (omega arith)) (λ e.
     choice SoundIfMade (not (isMemory (length m))) (λ g z. absurd (omega arith)) (λ g z.
-    sound-whole (settings 0 0 1 1 0 FORMAT-S OFF 0 t 0) (zeros (length m)) (not-false (isOwnType t) e)
+    sound-whole (settings 0 0 1 1 0 FORMAT-S OFF 0 t 0) (zeros (length m)) (rw first-date (not-false (isOwnType t) e))
     (whole 0 (zeros (length m))
     (record { long = rw length-zeros (not-false (isMemory (length m)) g); few = refl; held = zeros-nul (length m); apart = refl }))))

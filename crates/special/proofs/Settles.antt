@@ -8,7 +8,7 @@ use lib.ListN.{length, take, drop}
 use lib.Seq.{take-all}
 use borrow.Author.Needs.{needs}
 use borrow.Author.Tests.{eq-eqb, ne-eqb, not-true, not-false}
-use Rattle.octets.specs.Choice.{_is_, _≤?_, between, _!_, all, same}
+use Rattle.octets.specs.Choice.{_is_, _≤?_, _!_, all, same}
 use Rattle.octets.specs.Bytes.{ZERO, F}
 use Rattle.octets.specs.Decimal.{isDecimal, decimal2}
 use Rattle.octets.specs.Digits.{two}
@@ -16,7 +16,7 @@ use Rattle.octets.specs.declared.hex.Two.{Two}
 use Rattle.octets.specs.declared.hex.Two.the-variants.{Value, Bad}
 use Rattle.octets.proofs.Tests.{and-none}
 use Rattle.octets.proofs.Told.{two-none, two-some}
-use Rattle.board.specs.Settings.{FORMAT-S, FORMAT-M, OFF, ON, withTime, withDate, withFormat, withSpeaker, withAddress}
+use Rattle.board.specs.Settings.{FORMAT-S, FORMAT-M, OFF, ON, inDate, withTime, withDate, withFormat, withSpeaker, withAddress}
 use Rattle.board.specs.declared.Settings.{Settings}
 use Rattle.effects.specs.Effects.{board}
 use Rattle.special.specs.Configuration.{configure}
@@ -69,10 +69,10 @@ module _ (s : Settings) (d : List ℕ) where
     date-letters h = rw (eq-eqb (length d) 6 l, ← e, not-true b h)
 
     module _ (h : not b ≡ false) (x y z : ℕ) (p : x ≡ decimal2 d) (q : y ≡ decimal2 (drop 2 d)) (w : z ≡ decimal2 (drop 4 d))
-        (t : Bool) (f : t ≡ (between 1 12 x && between 1 31 y)) where
+        (t : Bool) (f : t ≡ inDate x y z) where
       pub date-none : not t ≡ true → Malformed ≡ setDate s d
       unfolding setDate
-      date-none n = rw (eq-eqb (length d) 6 l, ← e, not-false b h, ← p, ← q, ← f, not-true t n)
+      date-none n = rw (eq-eqb (length d) 6 l, ← e, not-false b h, ← p, ← q, ← w, ← f, not-true t n)
 
       pub date-right : not t ≡ false → (r : Settings) → r ≡ withDate s x y z → To r ≡ setDate s d
       unfolding setDate

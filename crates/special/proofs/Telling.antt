@@ -16,7 +16,7 @@ use Rattle.octets.specs.Bytes.{COMMA, ZERO, E, F}
 use Rattle.octets.specs.Hex.{inHex4}
 use Rattle.octets.specs.Decimal.{inDecimal2}
 use Rattle.octets.specs.Buffer.{splice}
-use Rattle.octets.proofs.Tests.{by-test, split}
+use Rattle.octets.proofs.Tests.{by-test}
 use Rattle.octets.proofs.Buffers.{length-splice}
 use Rattle.octets.proofs.Ranges.{on}
 use Rattle.buffers.proofs.Splices.{splice-none, splice-next, splice-in, overlay-covers}
@@ -24,7 +24,7 @@ use Rattle.board.specs.Settings.{ON, inRange}
 use Rattle.board.specs.Files.{sizeOf, filesOf, heads, used, unused}
 use Rattle.board.specs.Soundness.{holdsFiles}
 use Rattle.board.specs.declared.Settings.{Settings}
-use Rattle.board.proofs.Ranges.{range}
+use Rattle.board.proofs.Ranges.{range, month-most, day-most, year-most}
 use Rattle.board.proofs.Walking.{Standing, room, stand-start, stand-next, standing}
 use Rattle.board.proofs.Inside.{sound-ranged, sound-held, sound-least, sound-most, used-inside, unused-told, heads-step, heads-none}
 use Rattle.effects.specs.Reply.{replyOf}
@@ -98,13 +98,13 @@ module _ (s : Settings) (e : inRange s ≡ true) where
   minute-small = omega (arith, leb-true (s .minute) 59 (range s e .minute))
 
   pub month-small : s .month < 100
-  month-small = omega (arith, leb-true (s .month) 12 (split (1 ≤? s .month) (range s e .month) .1))
+  month-small = omega (arith, month-most s e)
 
   pub day-small : s .day < 100
-  day-small = omega (arith, leb-true (s .day) 31 (split (1 ≤? s .day) (range s e .day) .1))
+  day-small = omega (arith, day-most s e)
 
   pub year-small : s .year < 100
-  year-small = omega (arith, leb-true (s .year) 99 (range s e .year))
+  year-small = omega (arith, year-most s e)
 
 -- data that are put part by part are there
 module _ (out : List ℕ) (h : 128 ≤ length out) where

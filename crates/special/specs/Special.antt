@@ -3,12 +3,12 @@ use Prim.Native.Nat.{ℕ}
 use mathlib.Core.Bool.{Bool, not, _&&_, _||_}
 use mathlib.Core.List.{List, [], _∷_, _++_}
 use lib.ListN.{length, drop}
-use Rattle.octets.specs.Choice.{if_then_else_, _is_, _≤?_, between, _!_, none, all}
+use Rattle.octets.specs.Choice.{if_then_else_, _is_, _≤?_, _!_, none, all}
 use Rattle.octets.specs.Hex.{inHex4}
 use Rattle.octets.specs.Carried.{isCarried2, carried2}
 use Rattle.octets.specs.Decimal.{isDecimal, decimal2, inDecimal2}
 use Rattle.octets.specs.Bytes.{COMMA, ZERO, E, F}
-use Rattle.board.specs.Settings.{FORMAT-S, FORMAT-M, OFF, ON, withTime, withDate, withFormat, withSpeaker, withAddress}
+use Rattle.board.specs.Settings.{FORMAT-S, FORMAT-M, OFF, ON, inDate, withTime, withDate, withFormat, withSpeaker, withAddress}
 use Rattle.board.specs.Files.{filesOf, heads, unused}
 use Rattle.effects.specs.Reply.{replyOf}
 use Rattle.effects.specs.Effects.{Board, board, Effect, done, replied, refuse}
@@ -63,10 +63,10 @@ setSpeaker s d =
 unfoldable pub setFormat : Settings → List ℕ → Change
 setFormat s d = if length d is 1 && (d ! 0 is FORMAT-S || d ! 0 is FORMAT-M) then To (withFormat s (d ! 0)) else Malformed
 
--- "six digits MmDdYy, month 01 to 12, day 01 to 31"
+-- "six digits MmDdYy"; "A date that breaks this is malformed.": one that does not exist
 unfoldable pub setDate : Settings → List ℕ → Change
 setDate s d =
-    if length d is 6 && (all isDecimal d && (between 1 12 (decimal2 d) && between 1 31 (decimal2 (drop 2 d))))
+    if length d is 6 && (all isDecimal d && inDate (decimal2 d) (decimal2 (drop 2 d)) (decimal2 (drop 4 d)))
     then To (withDate s (decimal2 d) (decimal2 (drop 2 d)) (decimal2 (drop 4 d)))
     else Malformed
 

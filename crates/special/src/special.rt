@@ -105,7 +105,7 @@ fn set_format(s: Settings, d: &[u8]) -> Change
     Change::To(s.with_format(format))
 }
 
-// "six digits MmDdYy, month 01 to 12, day 01 to 31"
+// "six digits MmDdYy"; "A date that breaks this is malformed.": one that does not exist.
 fn set_date(s: Settings, d: &[u8]) -> Change
     ensures { λ r. ⌜ r ≡ setDate s (now (d .entry)) ⌝ }
 {
@@ -118,7 +118,7 @@ fn set_date(s: Settings, d: &[u8]) -> Change
     let month = decimal_at(d, 0);
     let day = decimal_at(d, 2);
     let year = decimal_at(d, 4);
-    if !in_date(month, day) {
+    if !in_date(month, day, year) {
         return Change::Malformed;
     }
     Change::To(s.with_date(month, day, year))

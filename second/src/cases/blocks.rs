@@ -2,6 +2,7 @@
 //! that are refused for each of the reasons 20 to 27.
 
 use super::boards::{self, make_text, message, new_label, size_of};
+use super::dates;
 use super::dice::Dice;
 use crate::bytes::{
     CONFIGURATION, DATE, LOWEST_DATA, POOL, READ_SPECIAL, READ_STRING, READ_TEXT, SERIAL_ADDRESS,
@@ -132,7 +133,7 @@ fn done(dice: &mut Dice, sight: &mut Sight, is_last: bool, is_first: bool) -> Pl
         11 | 12 => special(TIME, &decimal(dice, &[(0, 23), (0, 59)])),
         13 => special(SPEAKER, &dice.one_of([*b"00", *b"FF"])),
         14 => special(TIME_FORMAT, &dice.one_of([*b"S", *b"M"])),
-        15 | 16 => special(DATE, &decimal(dice, &[(1, 12), (1, 31), (0, 99)])),
+        15 | 16 => special(DATE, &dates::real(dice).text()),
         17 => special(SERIAL_ADDRESS, &byte_digits(dice.byte(0, 255))),
         _ => configuration(dice, sight),
     }
@@ -246,8 +247,13 @@ fn list_of(records: &[Record]) -> Vec<u8> {
     records.iter().flat_map(|r| r.to_bytes()).collect()
 }
 
-/// A block that the board refuses, for one of the eight reasons.
+/// A block that the board refuses, for one of the eight reasons. A date that
+/// does not exist comes more often than its share of them, so that the end of
+/// every month is met.
 fn refused(dice: &mut Dice, sight: &mut Sight, is_last: bool) -> Plan {
+    if dice.chance(18) {
+        return special(DATE, &dates::wrong(dice).text());
+    }
     match dice.between(20, 27) {
         20 => wrong_sum(dice, sight, is_last),
         21 => unknown(dice, is_last),
@@ -348,6 +354,7 @@ fn malformed(dice: &mut Dice, sight: &Sight, is_last: bool) -> Plan {
                 b"130100",
                 b"010000",
                 b"013200",
+                b"023100",
                 b"0101",
                 b"01010",
                 b"0101000",

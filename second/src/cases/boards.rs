@@ -1,6 +1,7 @@
 //! Boards for the runs: sound ones from end to end of what document 01 allows,
 //! and sound ones damaged in one place.
 
+use super::dates;
 use super::dice::Dice;
 use crate::bytes::NUL;
 use crate::files::{walk, File, MOST_FILES};
@@ -21,6 +22,8 @@ pub struct Board {
 pub const CROWD: usize = 40;
 /// A record and the one byte of content that a file has at least.
 pub const SMALLEST_FILE: usize = RECORD_LENGTH + 1;
+/// What the memory of most boards does not exceed.
+const SMALL_MEMORY: usize = 600;
 
 /// A sound board: most times a few files in a small memory.
 pub fn sound(dice: &mut Dice) -> Board {
@@ -32,6 +35,17 @@ pub fn sound(dice: &mut Dice) -> Board {
             (length, records(dice, length))
         }
     };
+    board_of(dice, length, records)
+}
+
+/// A sound board in a small memory.
+pub fn small(dice: &mut Dice) -> Board {
+    let length = dice.between(LEAST_MEMORY, SMALL_MEMORY);
+    let records = records(dice, length);
+    board_of(dice, length, records)
+}
+
+fn board_of(dice: &mut Dice, length: usize, records: Vec<Record>) -> Board {
     Board {
         settings: settings(dice, count_of(&records)),
         memory: memory_of(dice, length, &records),
@@ -94,26 +108,25 @@ pub fn used(records: &[Record]) -> usize {
 pub fn memory_length(dice: &mut Dice) -> usize {
     match dice.below(200) {
         0..=7 => LEAST_MEMORY,
-        8..=15 => dice.between(601, 4_000),
+        8..=15 => dice.between(SMALL_MEMORY + 1, 4_000),
         16 => dice.between(4_001, MOST_MEMORY),
         17 => MOST_MEMORY,
-        _ => dice.between(LEAST_MEMORY, 600),
+        _ => dice.between(LEAST_MEMORY, SMALL_MEMORY),
     }
 }
 
 fn settings(dice: &mut Dice, files: u8) -> Settings {
-    Settings {
+    let date = dates::real(dice);
+    date.on(Settings {
         hour: dice.byte(0, 23),
         minute: dice.byte(0, 59),
-        month: dice.byte(1, 12),
-        day: dice.byte(1, 31),
-        year: dice.byte(0, 99),
         format: dice.one_of([STANDARD_FORMAT, MILITARY_FORMAT]),
         speaker: dice.byte(0, 1),
         address: address(dice),
         own_type: own_type(dice),
         files,
-    }
+        ..Settings::default()
+    })
 }
 
 fn address(dice: &mut Dice) -> u8 {

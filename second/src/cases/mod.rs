@@ -2,6 +2,7 @@
 
 pub mod blocks;
 pub mod boards;
+pub mod dates;
 pub mod dice;
 pub mod frames;
 
@@ -20,7 +21,7 @@ use crate::stream::{
 use crate::translation::{MOST_PRINTABLE, MOST_TRANSLATED};
 
 /// How often each call is made, in the order of [`CALLS`].
-const WEIGHTS: [usize; 5] = [8, 40, 14, 20, 18];
+const WEIGHTS: [usize; 5] = [8, 56, 14, 20, 18];
 
 /// Writes so many cases, of these calls only.
 pub fn write_cases(
@@ -81,7 +82,7 @@ fn fresh_case(dice: &mut Dice) -> Case {
         0..=4 => LEAST_MEMORY - 1,
         5..=8 => dice.below(LEAST_MEMORY),
         9..=12 => dice.between(LEAST_MEMORY, LEAST_MEMORY + 1),
-        13..=16 => dice.one_of([MOST_MEMORY - 1, MOST_MEMORY, MOST_MEMORY + 1]),
+        13..=17 => dice.one_of([MOST_MEMORY - 1, MOST_MEMORY, MOST_MEMORY + 1]),
         _ => boards::memory_length(dice),
     };
     Case::Fresh {
@@ -92,9 +93,16 @@ fn fresh_case(dice: &mut Dice) -> Case {
 
 /// A run: most times on a sound board that the frame reaches.
 fn run_case(dice: &mut Dice) -> Case {
-    if dice.chance(66) {
-        return good_run(dice);
+    match dice.below(100) {
+        0..=56 => good_run(dice),
+        57..=73 => wrong_date_run(dice),
+        _ => any_run(dice),
     }
+}
+
+/// A run in which the board, the reply buffer, the header or the frame may be
+/// wrong.
+fn any_run(dice: &mut Dice) -> Case {
     let mut board = boards::sound(dice);
     let count = match dice.below(20) {
         0 => MOST_BLOCKS + 1,
@@ -108,7 +116,7 @@ fn run_case(dice: &mut Dice) -> Case {
     let short_by = match dice.below(10) {
         0 => 1,
         1 => dice.between(1, REPLY_MARGIN),
-        2..=4 if board.memory.len() == MOST_MEMORY => 1,
+        2..=6 if board.memory.len() == MOST_MEMORY => 1,
         _ => 0,
     };
     if dice.chance(15) {
@@ -137,6 +145,21 @@ fn good_run(dice: &mut Dice) -> Case {
         36 => dice.between(31, MOST_BLOCKS),
         _ => MOST_BLOCKS,
     };
+    run_on(dice, board, count)
+}
+
+/// A run that would be good, on a board whose date does not exist. No block of
+/// it is run, so a small board will do.
+fn wrong_date_run(dice: &mut Dice) -> Case {
+    let mut board = boards::small(dice);
+    board.settings = dates::wrong(dice).on(board.settings);
+    let count = dice.between(1, 4);
+    run_on(dice, board, count)
+}
+
+/// A run of a good frame that reaches the board, with a reply buffer that is
+/// long enough.
+fn run_on(dice: &mut Dice, board: boards::Board, count: usize) -> Case {
     let sketch = sketch_for(dice, &board, count);
     let more = dice.one_of([0, 0, 0, 1, 16]);
     Case::Run {

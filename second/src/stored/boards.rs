@@ -612,7 +612,7 @@ impl List {
             (b"E'MM", MALFORMED),
             (b"E;123199", DONE),
             (b"E;010100", DONE),
-            (b"E;023100", DONE),
+            (b"E;023100", MALFORMED),
             (b"E;000100", MALFORMED),
             (b"E;130100", MALFORMED),
             (b"E;010000", MALFORMED),

@@ -1,8 +1,9 @@
-//! The fixed cases: chosen examples with the numbers that document 01 gives
+//! The fixed cases: chosen examples with the numbers that the documents give
 //! them.
 
 pub mod boards;
 pub mod build;
+pub mod dates;
 pub mod full;
 pub mod outputs;
 
@@ -22,11 +23,12 @@ pub struct Stored {
 }
 
 /// All fixed cases: writing, re-forming and joining first, then the boards,
-/// the full ones last.
+/// the full ones behind the others, then the dates.
 pub fn all() -> Vec<Stored> {
     let mut cases = outputs::all();
     cases.extend(boards::all());
     cases.extend(full::all());
+    cases.extend(dates::all());
     cases
 }
 

@@ -1,8 +1,10 @@
 //! What is looked for in a stream of cases, the random and the fixed ones: the
-//! ends of what document 01 allows, and every command on a crowded board.
+//! ends of what document 01 allows, every command on a crowded board, and the
+//! end of every month as a command and on a board.
 
 use std::collections::{BTreeMap, BTreeSet};
 
+use crate::dates::{sorts_of, sorts_of_text, wanted_sorts, Sort};
 use second::body::{Block, MOST_BLOCKS};
 use second::bytes::{
     CONFIGURATION, DATE, EOT, POOL, READ_SPECIAL, READ_STRING, READ_TEXT, SERIAL_ADDRESS, SPEAKER,
@@ -14,10 +16,10 @@ use second::frame;
 use second::header::addressed;
 use second::hex::frame_digit;
 use second::numbers::{
-    BAD_BODY, BAD_LIST, DONE, NOT_SOUND, SHORT_REPLY_BUFFER, WRONG_MEMORY, WRONG_SUM,
+    BAD_BODY, BAD_LIST, DONE, MALFORMED, NOT_SOUND, SHORT_REPLY_BUFFER, WRONG_MEMORY, WRONG_SUM,
 };
 use second::record::{labels_are_distinct, Record, RECORD_LENGTH};
-use second::run::{Ran, REPLY_MARGIN};
+use second::run::{run, Ran, REPLY_MARGIN};
 use second::settings::Settings;
 use second::soundness::{is_sound, LEAST_MEMORY, MOST_MEMORY};
 use second::stream::{Answer, Case};
@@ -82,6 +84,10 @@ pub enum Fact {
     TooManyRecords,
     /// A reply with the 64 records of a full board.
     FullListReply,
+    /// Set Date with a date of this sort, on a board that ran it: done, or 22.
+    SetDate(Sort),
+    /// A board with a date of this sort, all else sound and good: 0, or 1.
+    BoardDate(Sort),
 }
 
 /// All that is looked for.
@@ -115,6 +121,8 @@ pub fn wanted() -> Vec<Fact> {
     wanted.extend([WRITE_TEXT, WRITE_STRING, READ_TEXT, READ_STRING].map(Fact::Command));
     wanted.extend(SET.map(|label| Fact::Function(WRITE_SPECIAL, label)));
     wanted.extend(READ.map(|label| Fact::Function(READ_SPECIAL, label)));
+    wanted.extend(wanted_sorts().into_iter().map(Fact::SetDate));
+    wanted.extend(wanted_sorts().into_iter().map(Fact::BoardDate));
     wanted
 }
 
@@ -174,6 +182,10 @@ impl Seen {
                 },
                 Answer::Run { ran, .. },
             ) => {
+                self.look_at_date(settings, &ran, |settings| {
+                    let (mut memory, mut reply) = (memory.clone(), reply.clone());
+                    run(settings, &mut memory, &mut reply, &frame).number
+                });
                 if is_sound(settings, &memory) {
                     self.look_at_board(settings, &memory);
                     self.look_at_buffer(&memory, &reply, &ran);
@@ -183,6 +195,26 @@ impl Seen {
                 }
             }
             _ => {}
+        }
+    }
+
+    /// The date of a board that was handed in with all else sound and good:
+    /// with 1 January 2000 in its place the frame is run.
+    fn look_at_date(&mut self, settings: Settings, ran: &Ran, number: impl Fn(Settings) -> u8) {
+        let sorts = sorts_of(settings.month, settings.day, settings.year);
+        let on_new_year = Settings {
+            month: 1,
+            day: 1,
+            year: 0,
+            ..settings
+        };
+        if sorts.is_empty() || number(on_new_year) != DONE {
+            return;
+        }
+        for sort in sorts {
+            let expected = if sort.exists() { DONE } else { NOT_SOUND };
+            assert_eq!(ran.number, expected, "{sort:?}");
+            self.add(Fact::BoardDate(sort));
         }
     }
 
@@ -251,7 +283,10 @@ impl Seen {
         assert!(addressed(&frame.pairs, settings.own_type, settings.address));
         self.add_if(ran.done == MOST_BLOCKS, Fact::FullFrame);
         let blocks = met(settings, memory, &frame.blocks);
+        let done = blocks.iter().filter(|met| met.outcome.is_ok()).count();
+        assert_eq!((done, blocks.len() - done), (ran.done, ran.refused));
         for met in &blocks {
+            self.look_at_set_date(met);
             self.look_at_list(met, memory.len());
             self.look_at_reply(met);
             let is_crowded = settings.files.min(met.files) >= CROWDED;
@@ -262,6 +297,25 @@ impl Seen {
         let written = blocks.iter().filter_map(Met::written_label);
         let labels: BTreeSet<u8> = written.collect();
         self.add_if(labels.len() == MOST_FILES, Fact::EveryFileWritten);
+    }
+
+    /// A Set Date that the board ran, its sum being right or none.
+    fn look_at_set_date(&mut self, met: &Met<'_>) {
+        let (WRITE_SPECIAL, [DATE, text @ ..]) = (met.block.command, met.block.data) else {
+            return;
+        };
+        if met.outcome == Err(WRONG_SUM) {
+            return;
+        }
+        for sort in sorts_of_text(text) {
+            let expected = if sort.exists() {
+                Ok(None)
+            } else {
+                Err(MALFORMED)
+            };
+            assert_eq!(met.outcome, expected, "{sort:?}");
+            self.add(Fact::SetDate(sort));
+        }
     }
 
     /// The reply to F "$" on a full board.

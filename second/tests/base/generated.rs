@@ -1,13 +1,17 @@
 //! The random cases: every number that a call can answer occurs, most runs are
-//! on sound, addressed boards, and both ends of every bound are reached.
+//! on sound, addressed boards, both ends of every bound are reached, and so is
+//! the end of every month.
 
 use std::collections::BTreeMap;
 
 use crate::common::assert_every_number;
 use crate::coverage::{Fact, Seen};
 use second::cases::any_case;
+use second::cases::boards::{small, sound};
+use second::cases::dates::wrong;
 use second::cases::dice::Dice;
 use second::cases::write_cases;
+use second::soundness::{is_sound, LEAST_MEMORY, MOST_MEMORY};
 use second::stream::{next_case, Answer, Case, Next, CALLS, RUN_CALL};
 
 const CASES: usize = 5_000;
@@ -15,9 +19,9 @@ const CASES: usize = 5_000;
 /// The seed and the number of the cases on which .ci/run compares the two
 /// implementations: `seed` and `count` there.
 const GATE_SEED: u64 = 20_261_115;
-const GATE_COUNT: usize = 4_000;
+const GATE_COUNT: usize = 5_000;
 /// What these cases may take, so that both programs stay quick.
-const GATE_MOST_BYTES: usize = 12_000_000;
+const GATE_MOST_BYTES: usize = 15_000_000;
 
 /// How often each call answered each number; the first refused block's number
 /// of a run counts under "r".
@@ -52,6 +56,20 @@ fn every_number_occurs() {
         println!("{seen:?} {runs} {good_runs}");
         assert_every_number(&seen.into_keys().collect());
         assert!(2 * good_runs >= runs, "{good_runs} of {runs}");
+    }
+}
+
+/// Boards that are meant to be sound are, and are not with a date that is
+/// meant not to exist.
+#[test]
+fn boards_are_as_meant() {
+    let mut dice = Dice::new(4);
+    for _ in 0..1_000 {
+        for board in [sound(&mut dice), small(&mut dice)] {
+            assert!(is_sound(board.settings, &board.memory));
+            let settings = wrong(&mut dice).on(board.settings);
+            assert!(!is_sound(settings, &board.memory), "{settings:?}");
+        }
     }
 }
 
@@ -96,8 +114,9 @@ fn gate_cases() -> Vec<Case> {
     cases
 }
 
-/// The cases of the gate reach both ends of what document 01 allows, and every
-/// command on a crowded board.
+/// The cases of the gate reach both ends of what document 01 allows, every
+/// command on a crowded board and the end of every month; more than a third of
+/// them are runs on sound boards.
 #[test]
 fn the_gate_reaches_every_end() {
     let cases = gate_cases();
@@ -105,6 +124,10 @@ fn the_gate_reaches_every_end() {
     let runs = cases.iter().filter(|case| case.call() == RUN_CALL).count();
     let seen = Seen::in_cases(cases.into_iter());
     seen.assert_all();
+    let lengths = LEAST_MEMORY..=MOST_MEMORY;
+    let sound: usize = lengths.map(|length| seen.count(Fact::Memory(length))).sum();
+    println!("{sound} runs on sound boards");
+    assert!(3 * sound >= GATE_COUNT, "{sound} of {GATE_COUNT}");
     let crowded: usize = (40..=64).map(|files| seen.count(Fact::Files(files))).sum();
     println!("{crowded} of {runs} runs on 40 to 64 files");
     assert!(10 * crowded >= runs, "{crowded} of {runs}");

@@ -39,8 +39,8 @@ fn every_refusal_is_there() {
     assert_every_number(&seen);
 }
 
-/// The fixed cases reach both ends of what document 01 allows, and every
-/// command on a full board.
+/// The fixed cases reach both ends of what document 01 allows, every command
+/// on a full board and the end of every month.
 #[test]
 fn every_end_is_there() {
     let cases = all().into_iter().map(|stored| stored.case);

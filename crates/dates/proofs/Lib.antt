@@ -1,0 +1,3 @@
+-- Laws of dates.
+pub mod Bounds
+pub mod Months

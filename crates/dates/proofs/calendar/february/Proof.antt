@@ -1,0 +1,12 @@
+use Rattle.dates.proofs.Months.{months}
+use Rattle.dates.proofs.calendar.february.Statement.{statement}
+use Rattle.dates.proofs.calendar.february.Tie as tie
+
+returns : tie.Need-returns
+returns c = search months
+
+returns-2 : tie.Need-returns-2
+returns-2 c = search months
+
+pub february-spec : {M : Type 1} → statement M
+february-spec = tie.close (tie.spec returns returns-2)

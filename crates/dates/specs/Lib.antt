@@ -1,0 +1,2 @@
+-- Dates, by year, month and day alone.
+pub mod Calendar
