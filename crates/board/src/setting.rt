@@ -83,7 +83,7 @@ pub fn in_time(hour: u8, minute: u8) -> bool
     hour <= LAST_HOUR && minute <= LAST_MINUTE
 }
 
-// "true month lengths, years being 2000 to 2099"
+// Request 1: "true month lengths, years being 2000 to 2099".
 pub fn in_date(month: u8, day: u8, year: u8) -> bool
     ensures { λ r. ⌜ r ≡ inDate month day year ⌝ }
 {

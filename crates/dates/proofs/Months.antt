@@ -1,15 +1,16 @@
--- A month's length and a date that exists, test by test, as the code makes them.
+-- A month's length and its days, test by test, as the code makes them.
 use Prim.Native.Nat.{ℕ, _%_, _<_, _≤_}
 use mathlib.Core.Path.{_≡_, refl, sym}
-use mathlib.Core.Bool.{Bool, true, false, not, _&&_}
+use mathlib.Core.Bool.{_&&_}
 use mathlib.Core.Logic.{_⊎_, ⊎-elim, inl, inr}
 use native.Mathlib.Omega.{arith}
 use borrow.Author.Needs.{needs}
-use borrow.Author.Tests.{eq-eqb, ne-eqb, le-leb, lt-leb, not-true, not-false}
-use Rattle.octets.specs.Choice.{_≤?_, between}
+use borrow.Author.Tests.{eq-eqb, ne-eqb, le-leb}
+use Rattle.octets.specs.Choice.{_≤?_}
 use Rattle.octets.proofs.Spots.{past}
 use Rattle.octets.proofs.Ranges.{on}
-use Rattle.dates.specs.Calendar.{FIRST-YEAR, LAST-YEAR, february, monthLengths, monthLength, isDate}
+use Rattle.octets.proofs.Junctions.{junctions}
+use Rattle.dates.specs.Calendar.{february, monthLengths, monthLength}
 
 -- ---- February
 
@@ -67,20 +68,9 @@ module _ (y m : ℕ) where
 
 pub ruleset months = (february-29, february-28, length-february, length-30, length-31, length-nought, length-summer, length-behind, needs)
 
--- ---- a date: b is what is said of its year, n its month's length
+-- ---- a day: n is its month's length, k what that is
 
-module _ (y m d : ℕ) (b : Bool) (e : b ≡ between FIRST-YEAR LAST-YEAR y) where
-  pub date-outside : not b ≡ true → false ≡ isDate y m d
-  unfolding isDate
-  date-outside f = rw (← e, not-true b f)
+pub day-told : (d n k : ℕ) → n ≡ k → 1 ≤ d → (d ≤? n) ≡ (1 ≤? d && d ≤? k)
+day-told d n k e h = rw (e, le-leb 1 d h)
 
-  module _ (f : not b ≡ false) (n : ℕ) (g : n ≡ monthLength y m) where
-    pub date-told : 1 ≤ d → (d ≤? n) ≡ isDate y m d
-    unfolding isDate
-    date-told h = rw (← e, not-false b f, ← g, le-leb 1 d h)
-
-    pub date-nought : d < 1 → (1 ≤? d) ≡ isDate y m d
-    unfolding isDate
-    date-nought h = rw (← e, not-false b f, lt-leb 1 d h)
-
-pub ruleset days = (date-outside, date-told, date-nought, needs)
+pub ruleset days = (day-told, junctions)

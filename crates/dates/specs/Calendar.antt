@@ -1,8 +1,8 @@
--- Which dates there are in the years 2000 to 2099. A year stands in full; months and days count from 1.
+-- Request 1: which dates there are in the years 2000 to 2099. A year stands in full; months and days count from 1.
 use Prim.Native.Nat.{ℕ, _%_}
 use mathlib.Core.Bool.{Bool, _&&_}
 use mathlib.Core.List.{List, [], _∷_}
-use Rattle.octets.specs.Choice.{if_then_else_, _is_, _≤?_, between, _!_}
+use Rattle.octets.specs.Choice.{if_then_else_, _is_, between, _!_}
 
 -- "years being 2000 to 2099"
 abbrev pub FIRST-YEAR : ℕ

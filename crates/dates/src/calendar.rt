@@ -1,7 +1,6 @@
-// Which dates there are in the years 2000 to 2099. A year stands in full; months and days count from 1.
+// Request 1: which dates there are in the years 2000 to 2099. A year stands in full; months and days count from 1.
 ghost use mathlib.Core.Path.{_≡_};
-ghost use mathlib.Core.Bool.{_&&_};
-ghost use Rattle.octets.specs.Choice.{_≤?_, between};
+ghost use Rattle.octets.specs.Choice.{between};
 ghost use Rattle.dates.specs.Calendar.{FIRST-YEAR, LAST-YEAR, february, monthLength, isDate};
 
 // "years being 2000 to 2099"

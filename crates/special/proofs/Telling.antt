@@ -11,7 +11,7 @@ use lib.ListN.{length, take, drop, length-append, length-drop}
 use lib.Seq.{length-take-le}
 use borrow.Author.Needs.{needs}
 use borrow.Author.Tests.{eq-eqb, ne-eqb, leb-true, not-true, not-false}
-use Rattle.octets.specs.Choice.{if_then_else_, _is_, _isn't_, _≤?_, _!_}
+use Rattle.octets.specs.Choice.{if_then_else_, _is_, _isn't_, _!_}
 use Rattle.octets.specs.Bytes.{COMMA, ZERO, E, F}
 use Rattle.octets.specs.Hex.{inHex4}
 use Rattle.octets.specs.Decimal.{inDecimal2}

@@ -63,7 +63,7 @@ setSpeaker s d =
 unfoldable pub setFormat : Settings → List ℕ → Change
 setFormat s d = if length d is 1 && (d ! 0 is FORMAT-S || d ! 0 is FORMAT-M) then To (withFormat s (d ! 0)) else Malformed
 
--- "six digits MmDdYy"; "A date that breaks this is malformed.": one that does not exist
+-- "six digits MmDdYy"; request 1, of a date that does not exist: "A date that breaks this is malformed."
 unfoldable pub setDate : Settings → List ℕ → Change
 setDate s d =
     if length d is 6 && (all isDecimal d && inDate (decimal2 d) (decimal2 (drop 2 d)) (decimal2 (drop 4 d)))

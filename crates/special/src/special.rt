@@ -105,7 +105,7 @@ fn set_format(s: Settings, d: &[u8]) -> Change
     Change::To(s.with_format(format))
 }
 
-// "six digits MmDdYy"; "A date that breaks this is malformed.": one that does not exist.
+// "six digits MmDdYy"; request 1, of a date that does not exist: "A date that breaks this is malformed."
 fn set_date(s: Settings, d: &[u8]) -> Change
     ensures { λ r. ⌜ r ≡ setDate s (now (d .entry)) ⌝ }
 {
