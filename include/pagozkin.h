@@ -21,8 +21,8 @@ extern "C" {
 /* The version of header and library: a changed struct, number or call changes the first part, an added one the second part;
  * where only what a call answers has changed, the third. */
 #define PAGOZKIN_VERSION_MAJOR 1
-#define PAGOZKIN_VERSION_MINOR 0
-#define PAGOZKIN_VERSION_PATCH 1
+#define PAGOZKIN_VERSION_MINOR 1
+#define PAGOZKIN_VERSION_PATCH 0
 
 /* Marks every call: an answer that is thrown away hides a refusal, and a compiler that can shall warn of it. */
 #if defined(__GNUC__) || defined(__clang__)
@@ -43,6 +43,10 @@ extern "C" {
 #define PAGOZKIN_RECORD 11            /* bytes of memory that a file takes besides its SIZE: "an 11-byte record" */
 #define PAGOZKIN_REPLY_ROOM 64        /* what a reply buffer needs beyond the memory's length: "memory plus 64" */
 #define PAGOZKIN_MOST_RESULT 24576    /* bytes of a result, in any form: "8,192 translated bytes", each at most three in print */
+
+#define PAGOZKIN_FIRST_YEAR 2000      /* years of dates: "2000 to 2099" */
+#define PAGOZKIN_LAST_YEAR 2099       /* the same */
+#define PAGOZKIN_MOST_MONTHS 1199     /* months that a renewal counts, forward or back: "Counts run from -1,199 to 1,199." */
 
 /* The room that a read is lent: bytes that a printable frame stands for, at most. */
 #define PAGOZKIN_ROOM PAGOZKIN_MOST_TRANSLATED
@@ -88,6 +92,13 @@ enum {
     PAGOZKIN_BLOCK_BAD_RECORD = 25,     /* ""$": bad record, count or length" */
     PAGOZKIN_BLOCK_LABEL_TWICE = 26,    /* "label twice" */
     PAGOZKIN_BLOCK_NO_ROOM = 27         /* "no room" */
+};
+
+/* Renewal dates, weekdays and days between dates: "in that order; all answer with zeros". */
+enum {
+    PAGOZKIN_NO_DATE = 30,       /* "a date that does not exist" */
+    PAGOZKIN_COUNT_OUTSIDE = 31, /* "a count outside its range" */
+    PAGOZKIN_RESULT_OUTSIDE = 32 /* "a result outside 2000 to 2099" */
 };
 
 /* The three forms of a frame. */
@@ -168,6 +179,31 @@ typedef struct pagozkin_block_places {
     size_t next;     /* where the next block starts, or the end of the bytes */
 } pagozkin_block_places;
 
+/* A date, by itself. The settings keep a year of two digits, this has it in full: PAGOZKIN_FIRST_YEAR and the settings' year. */
+typedef struct pagozkin_date {
+    uint16_t year; /* 2000 to 2099 */
+    uint8_t month; /* 1 to 12 */
+    uint8_t day;   /* 1 to the month's last */
+} pagozkin_date;
+
+/* The outcome of a renewal. */
+typedef struct pagozkin_renewed {
+    uint8_t number;     /* 0, or 30, 31 or 32 with a date of zeros */
+    pagozkin_date date; /* "the renewal date" */
+} pagozkin_renewed;
+
+/* The weekday of a date. */
+typedef struct pagozkin_day_of_week {
+    uint8_t number;  /* 0, or 30 with 0 */
+    uint8_t weekday; /* "1 Sunday to 7 Saturday" */
+} pagozkin_day_of_week;
+
+/* The days between two dates. */
+typedef struct pagozkin_days_apart {
+    uint8_t number; /* 0, or 30 with 0 */
+    int32_t days;   /* "negative when the second is earlier": -36,524 to 36,524 */
+} pagozkin_days_apart;
+
 /* Stack in bytes that a call needs, those of the C library's memset included, as libport.a stands (x86-64). */
 #define PAGOZKIN_STACK_FRESH 512
 #define PAGOZKIN_STACK_IS_SOUND 512
@@ -177,6 +213,9 @@ typedef struct pagozkin_block_places {
 #define PAGOZKIN_STACK_JOIN 17920
 #define PAGOZKIN_STACK_READ 512
 #define PAGOZKIN_STACK_STEP 512
+#define PAGOZKIN_STACK_RENEWAL_DATE 512
+#define PAGOZKIN_STACK_WEEKDAY 3072
+#define PAGOZKIN_STACK_DAYS_BETWEEN 3072
 
 /* "A fresh board has 00:00, 01 01 00, format S, speaker off, address 00, no files, memory all zero." 0, 10 or 11.
  * C must see to: memory valid for memory_len bytes. */
@@ -216,6 +255,17 @@ pagozkin_places pagozkin_read(const uint8_t *frame, size_t frame_len, uint8_t ro
  * then block.next as long as kind is PAGOZKIN_MORE. bytes are the frame, or those in the room, places.length of them.
  * C must see to: bytes valid for bytes_len bytes; at may be any number. */
 pagozkin_block_places pagozkin_step(const uint8_t *bytes, size_t bytes_len, size_t at) PAGOZKIN_MUST_USE;
+
+/* "same day of the month as the first date, or that month's last day if it is shorter": 0, or 30, 31 or 32. months is the count,
+ * forward or, below 0, back. "It is always reckoned from the first date": keep the first date of a permit and count from it, since
+ * a renewal date that is renewed again loses the days that a short month cut off. */
+pagozkin_renewed pagozkin_renewal_date(pagozkin_date first, int16_t months) PAGOZKIN_MUST_USE;
+
+/* "the weekday (1 Sunday to 7 Saturday; 1 January 2000 gives 7)": 0, or 30. */
+pagozkin_day_of_week pagozkin_weekday(pagozkin_date date) PAGOZKIN_MUST_USE;
+
+/* "the days between two dates, negative when the second is earlier": 0, or 30 where either date does not exist. */
+pagozkin_days_apart pagozkin_days_between(pagozkin_date first, pagozkin_date second) PAGOZKIN_MUST_USE;
 
 #ifdef __cplusplus
 }

@@ -5,6 +5,22 @@
 pub const FIRST_YEAR: u16 = 2_000;
 pub const LAST_YEAR: u16 = 2_099;
 
+/// A date as a call gets or gives it, whether or not it exists. An earlier date
+/// is the lesser one.
+#[derive(Clone, Copy, Debug, Default, PartialEq, Eq, PartialOrd, Ord)]
+pub struct Date {
+    pub year: u16,
+    pub month: u8,
+    pub day: u8,
+}
+
+impl Date {
+    /// Whether there is such a date.
+    pub fn exists(self) -> bool {
+        exists(self.year, self.month, self.day)
+    }
+}
+
 /// Whether there is such a date.
 pub fn exists(year: u16, month: u8, day: u8) -> bool {
     match month_length(year, month) {

@@ -1,8 +1,9 @@
-//! A second implementation of the sign board of document 01 and of request 1
-//! of document 02, written from these documents alone, to be compared case by
-//! case with another one.
+//! A second implementation of the sign board of document 01 and of requests 1
+//! and 6 of document 02, written from these documents alone, to be compared
+//! case by case with another one.
 //!
-//! Days and months, by themselves: [`dates`].
+//! Days and months, by themselves: [`dates`], [`renewal`], [`weekday`],
+//! [`days_between`].
 //! The frame layer: [`translation`], [`lead`], [`header`], [`body`], [`sum`],
 //! [`frame`], [`forms`], [`writing`], [`reforming`], [`joining`].
 //! The sign layer: [`settings`], [`record`], [`files`], [`soundness`],
@@ -16,6 +17,7 @@ pub mod cases;
 pub mod commands;
 pub mod configuration;
 pub mod dates;
+pub mod days_between;
 pub mod files;
 pub mod forms;
 pub mod frame;
@@ -27,6 +29,7 @@ pub mod lead;
 pub mod numbers;
 pub mod record;
 pub mod reforming;
+pub mod renewal;
 pub mod reply;
 pub mod run;
 pub mod settings;
@@ -38,4 +41,5 @@ pub mod stream;
 pub mod sum;
 pub mod translation;
 pub mod twelve;
+pub mod weekday;
 pub mod writing;

@@ -12,8 +12,8 @@ use second::twelve::write_twelve;
 
 const USAGE: &str = "\
 usage: second replay                                        cases in, lines out
-       second cases --seed S --count N [--calls NRWFJ]      random cases
-       second stored [--calls NRWFJ]                        the fixed cases
+       second cases --seed S --count N [--calls NRWFJDYB]   random cases
+       second stored [--calls NRWFJDYB]                     the fixed cases
        second twelve                                        the twelve notices
 ";
 

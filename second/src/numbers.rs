@@ -56,3 +56,9 @@ pub const BAD_LIST: Number = 25;
 pub const LABEL_TWICE: Number = 26;
 /// "no room"
 pub const NO_ROOM: Number = 27;
+/// Request 6: "30 for a date that does not exist"
+pub const NO_SUCH_DATE: Number = 30;
+/// Request 6: "31 for a count outside its range"
+pub const WRONG_COUNT: Number = 31;
+/// Request 6: "32 for a result outside 2000 to 2099"
+pub const RESULT_OUTSIDE: Number = 32;

@@ -2,13 +2,17 @@
 
 use std::io::{self, BufRead, Write};
 
+use crate::dates::Date;
+use crate::days_between::{days_between, Between};
 use crate::forms::Written;
 use crate::fresh::{fresh, Made};
 use crate::hex::byte_digits;
 use crate::joining::join;
 use crate::reforming::reform;
+use crate::renewal::{renewal, Renewed};
 use crate::run::{run, Ran};
 use crate::settings::{Settings, FIELDS};
+use crate::weekday::{weekday, Told};
 use crate::writing::write;
 
 pub const FRESH_CALL: u8 = b'N';
@@ -16,8 +20,20 @@ pub const RUN_CALL: u8 = b'R';
 pub const WRITE_CALL: u8 = b'W';
 pub const REFORM_CALL: u8 = b'F';
 pub const JOIN_CALL: u8 = b'J';
+pub const RENEWAL_CALL: u8 = b'D';
+pub const WEEKDAY_CALL: u8 = b'Y';
+pub const DAYS_CALL: u8 = b'B';
 /// All call bytes.
-pub const CALLS: [u8; 5] = [FRESH_CALL, RUN_CALL, WRITE_CALL, REFORM_CALL, JOIN_CALL];
+pub const CALLS: [u8; 8] = [
+    FRESH_CALL,
+    RUN_CALL,
+    WRITE_CALL,
+    REFORM_CALL,
+    JOIN_CALL,
+    RENEWAL_CALL,
+    WEEKDAY_CALL,
+    DAYS_CALL,
+];
 
 /// The line for a case that cannot be read.
 const BAD_CASE: &[u8] = b"bad case\n";
@@ -53,6 +69,17 @@ pub enum Case {
         second: Vec<u8>,
         output: Vec<u8>,
     },
+    Renewal {
+        first: Date,
+        count: i16,
+    },
+    Weekday {
+        date: Date,
+    },
+    Days {
+        first: Date,
+        second: Date,
+    },
 }
 
 /// What a call gave, with the buffers as it left them.
@@ -71,6 +98,9 @@ pub enum Answer {
         written: Written,
         output: Vec<u8>,
     },
+    Renewal(Renewed),
+    Weekday(Told),
+    Days(Between),
 }
 
 impl Answer {
@@ -80,6 +110,9 @@ impl Answer {
             Answer::Fresh { made, .. } => made.number,
             Answer::Run { ran, .. } => ran.number,
             Answer::Output { written, .. } => written.number,
+            Answer::Renewal(renewed) => renewed.number,
+            Answer::Weekday(told) => told.number,
+            Answer::Days(between) => between.number,
         }
     }
 
@@ -101,17 +134,24 @@ impl Case {
             Case::Write { .. } => WRITE_CALL,
             Case::Reform { .. } => REFORM_CALL,
             Case::Join { .. } => JOIN_CALL,
+            Case::Renewal { .. } => RENEWAL_CALL,
+            Case::Weekday { .. } => WEEKDAY_CALL,
+            Case::Days { .. } => DAYS_CALL,
         }
     }
 
-    /// The same call with this output buffer; a call on a board has none and
-    /// stays as it is.
+    /// The same call with this output buffer; a call on a board or on dates has
+    /// none and stays as it is.
     pub fn with_output(mut self, buffer: Vec<u8>) -> Case {
         match &mut self {
             Case::Write { output, .. }
             | Case::Reform { output, .. }
             | Case::Join { output, .. } => *output = buffer,
-            Case::Fresh { .. } | Case::Run { .. } => {}
+            Case::Fresh { .. }
+            | Case::Run { .. }
+            | Case::Renewal { .. }
+            | Case::Weekday { .. }
+            | Case::Days { .. } => {}
         }
         self
     }
@@ -162,6 +202,9 @@ impl Case {
                 let written = join(form, &first, &second, &mut output);
                 Answer::Output { written, output }
             }
+            Case::Renewal { first, count } => Answer::Renewal(renewal(first, count)),
+            Case::Weekday { date } => Answer::Weekday(weekday(date)),
+            Case::Days { first, second } => Answer::Days(days_between(first, second)),
         }
     }
 
@@ -218,6 +261,15 @@ impl Case {
                 push_string(&mut bytes, second);
                 push_string(&mut bytes, output);
             }
+            Case::Renewal { first, count } => {
+                push_date(&mut bytes, *first);
+                bytes.extend(count.to_be_bytes());
+            }
+            Case::Weekday { date } => push_date(&mut bytes, *date),
+            Case::Days { first, second } => {
+                push_date(&mut bytes, *first);
+                push_date(&mut bytes, *second);
+            }
         }
         bytes
     }
@@ -229,6 +281,13 @@ fn push_string(bytes: &mut Vec<u8>, string: &[u8]) {
     let length = u16::try_from(string.len()).unwrap_or(u16::MAX);
     bytes.extend(length.to_be_bytes());
     bytes.extend(string.iter().take(usize::from(length)));
+}
+
+/// A date in a stream: the year in two bytes, then month and day. "A number of
+/// two bytes has its most significant byte first".
+fn push_date(bytes: &mut Vec<u8>, date: Date) {
+    bytes.extend(date.year.to_be_bytes());
+    bytes.extend([date.month, date.day]);
 }
 
 /// What comes next in a stream.
@@ -292,6 +351,17 @@ fn read_arguments(call: u8, input: &mut impl BufRead) -> io::Result<Option<Case>
             second: read_string(input)?,
             output: read_string(input)?,
         },
+        RENEWAL_CALL => Case::Renewal {
+            first: read_date(input)?,
+            count: i16::from_be_bytes(read_bytes(input)?),
+        },
+        WEEKDAY_CALL => Case::Weekday {
+            date: read_date(input)?,
+        },
+        DAYS_CALL => Case::Days {
+            first: read_date(input)?,
+            second: read_date(input)?,
+        },
         _ => return Ok(None),
     };
     Ok(Some(case))
@@ -299,17 +369,30 @@ fn read_arguments(call: u8, input: &mut impl BufRead) -> io::Result<Option<Case>
 
 /// "A number is one byte."
 fn read_number(input: &mut impl BufRead) -> io::Result<u8> {
-    let mut number = [0];
-    input.read_exact(&mut number)?;
-    Ok(u8::from_be_bytes(number))
+    Ok(u8::from_be_bytes(read_bytes(input)?))
+}
+
+/// A date as [`push_date`] lays it out.
+fn read_date(input: &mut impl BufRead) -> io::Result<Date> {
+    Ok(Date {
+        year: u16::from_be_bytes(read_bytes(input)?),
+        month: read_number(input)?,
+        day: read_number(input)?,
+    })
 }
 
 fn read_string(input: &mut impl BufRead) -> io::Result<Vec<u8>> {
-    let mut length = [0; 2];
-    input.read_exact(&mut length)?;
-    let mut string = vec![0; usize::from(u16::from_be_bytes(length))];
+    let length = u16::from_be_bytes(read_bytes(input)?);
+    let mut string = vec![0; usize::from(length)];
     input.read_exact(&mut string)?;
     Ok(string)
+}
+
+/// The next so many bytes.
+fn read_bytes<const N: usize>(input: &mut impl BufRead) -> io::Result<[u8; N]> {
+    let mut bytes = [0; N];
+    input.read_exact(&mut bytes)?;
+    Ok(bytes)
 }
 
 /// "A line for each case, ended by LF, its fields parted by single spaces;
@@ -338,6 +421,18 @@ pub fn line(answer: &Answer) -> Vec<u8> {
             line.number(written.length);
             line.string(output);
         }
+        Answer::Renewal(renewed) => {
+            line.number(renewed.number);
+            line.date(renewed.date);
+        }
+        Answer::Weekday(told) => {
+            line.number(told.number);
+            line.number(told.weekday);
+        }
+        Answer::Days(between) => {
+            line.number(between.number);
+            line.number(between.days);
+        }
     }
     line.end()
 }
@@ -355,9 +450,16 @@ impl Line {
         }
     }
 
+    /// A number in decimal, "with "-" below 0".
     fn number(&mut self, number: impl ToString) {
         self.part();
         self.text.extend_from_slice(number.to_string().as_bytes());
+    }
+
+    fn date(&mut self, date: Date) {
+        self.number(date.year);
+        self.number(date.month);
+        self.number(date.day);
     }
 
     fn settings(&mut self, settings: Settings) {

@@ -1,5 +1,5 @@
-/* Each field of each struct of pagozkin.h, by name, after calls that give every field of a struct another value;
- * dates that exist and dates that do not; what a read leaves in its room; and each call with empty slices. */
+/* Each field of each struct of pagozkin.h, by name, after calls that give every field of a struct another value; dates that exist and
+ * dates that do not; renewal dates, weekdays and days between dates; what a read leaves in its room; and each call with empty slices. */
 #include "expect.h"
 
 #include <pagozkin.h>
@@ -171,6 +171,51 @@ static void rooms(void)
     leaves(PAGOZKIN_DONE, BYTES("\0\0\0\0\0\001Z00\002AA\004"), BYTES(""));
 }
 
+/* "31 January gives 28 February in 2001 and then 31 March"; back over a year's beginning; and each refusal, with zeros. */
+static void renewals(void)
+{
+    static const struct {
+        pagozkin_date first;
+        int16_t months;
+        uint8_t number;
+        pagozkin_date date;
+    } each[] = {
+        {{2001, 1, 31}, 1, PAGOZKIN_DONE, {2001, 2, 28}},
+        {{2001, 1, 31}, 2, PAGOZKIN_DONE, {2001, 3, 31}},
+        {{2004, 1, 31}, -11, PAGOZKIN_DONE, {2003, 2, 28}},
+        {{2099, 12, 31}, -PAGOZKIN_MOST_MONTHS, PAGOZKIN_DONE, {2000, 1, 31}},
+        {{2001, 2, 29}, -32768, PAGOZKIN_NO_DATE, {0, 0, 0}},
+        {{2001, 2, 28}, -32768, PAGOZKIN_COUNT_OUTSIDE, {0, 0, 0}},
+        {{2000, 1, 1}, -1, PAGOZKIN_RESULT_OUTSIDE, {0, 0, 0}},
+    };
+    for (size_t i = 0; i < sizeof each / sizeof each[0]; i++) {
+        pagozkin_renewed r = pagozkin_renewal_date(each[i].first, each[i].months);
+        IS(r.number, each[i].number);
+        IS(r.date.year, each[i].date.year);
+        IS(r.date.month, each[i].date.month);
+        IS(r.date.day, each[i].date.day);
+    }
+}
+
+static void days(void)
+{
+    static const pagozkin_date first = {2000, 1, 1}, other = {2000, 1, 3}, last = {2099, 12, 31}, none = {2100, 1, 1};
+    pagozkin_day_of_week w = pagozkin_weekday(first);
+    IS(w.number, PAGOZKIN_DONE);
+    IS(w.weekday, 7);
+    IS(pagozkin_weekday(other).weekday, 2);
+    w = pagozkin_weekday(none);
+    IS(w.number, PAGOZKIN_NO_DATE);
+    IS(w.weekday, 0);
+    pagozkin_days_apart a = pagozkin_days_between(first, last);
+    IS(a.number, PAGOZKIN_DONE);
+    is("days on", (long)a.days == 36524, 1);
+    is("days back", (long)pagozkin_days_between(last, first).days == -36524, 1);
+    a = pagozkin_days_between(last, none);
+    IS(a.number, PAGOZKIN_NO_DATE);
+    IS(a.days, 0);
+}
+
 /* A length of 0 asks nothing of its pointer. */
 static void empties(void)
 {
@@ -192,6 +237,8 @@ int main(void)
 {
     runs();
     dates();
+    renewals();
+    days();
     writes();
     reads();
     rooms();

@@ -164,6 +164,24 @@ static void results(void)
     is("a result too long", w.number, PAGOZKIN_TOO_LONG);
 }
 
+static uint8_t renewed(uint16_t year, uint8_t month, int16_t months)
+{
+    pagozkin_date first = {year, month, 1};
+    return pagozkin_renewal_date(first, months).number;
+}
+
+static void renewals(void)
+{
+    is("the most months on", renewed(PAGOZKIN_FIRST_YEAR, 1, PAGOZKIN_MOST_MONTHS), PAGOZKIN_DONE);
+    is("too many months on", renewed(PAGOZKIN_FIRST_YEAR, 1, PAGOZKIN_MOST_MONTHS + 1), PAGOZKIN_COUNT_OUTSIDE);
+    is("the most months back", renewed(PAGOZKIN_LAST_YEAR, 12, -PAGOZKIN_MOST_MONTHS), PAGOZKIN_DONE);
+    is("too many months back", renewed(PAGOZKIN_LAST_YEAR, 12, -PAGOZKIN_MOST_MONTHS - 1), PAGOZKIN_COUNT_OUTSIDE);
+    is("a first date too early", renewed(PAGOZKIN_FIRST_YEAR - 1, 12, 1), PAGOZKIN_NO_DATE);
+    is("a first date too late", renewed(PAGOZKIN_LAST_YEAR + 1, 1, -1), PAGOZKIN_NO_DATE);
+    is("a result too early", renewed(PAGOZKIN_FIRST_YEAR, 1, -1), PAGOZKIN_RESULT_OUTSIDE);
+    is("a result too late", renewed(PAGOZKIN_LAST_YEAR, 12, 1), PAGOZKIN_RESULT_OUTSIDE);
+}
+
 int main(void)
 {
     own_types();
@@ -173,5 +191,6 @@ int main(void)
     frames();
     counts();
     results();
+    renewals();
     return faults != 0;
 }

@@ -1,8 +1,9 @@
 /* Replays a stream of cases from standard input through libport.a, a line of output for each, as the program `replay` does.
- * A case is a call byte and its arguments: a number is one byte, a string its length in two bytes, most significant first,
- * and its bytes. After each call it looks at the bytes around every buffer and at the stack that the call took; the calls that
- * have no cases of their own are made beside each run, and held to what it answers. A changed byte, more stack than pagozkin.h
- * states, an answer that does not fit or a case that cannot be read ends the program with a line that says so and with 1. */
+ * A case is a call byte and its arguments: a number is one byte, or two with the most significant first (a signed one in two's
+ * complement), a string its length in two bytes and its bytes. After each call it looks at the bytes around every buffer and at the
+ * stack that the call took; the calls that have no cases of their own are made beside each run, and held to what it answers. A changed
+ * byte, more stack than pagozkin.h states, an answer that does not fit or a case that cannot be read ends the program with a line that
+ * says so and with 1. */
 #include "painted.h"
 
 #include <pagozkin.h>
@@ -25,6 +26,11 @@ static pagozkin_settings settings;
 static pagozkin_made made;
 static pagozkin_answer answer;
 static pagozkin_written written;
+static pagozkin_date date, second;
+static int16_t months;
+static pagozkin_renewed renewed;
+static pagozkin_day_of_week day;
+static pagozkin_days_apart apart;
 
 /* what is_sound, read and step answer beside a run */
 static uint8_t sound;
@@ -47,6 +53,29 @@ static int read_number(uint8_t *n)
     return byte != EOF;
 }
 
+static int read_wide(uint16_t *n)
+{
+    uint8_t high, low;
+    if (!read_number(&high) || !read_number(&low))
+        return 0;
+    *n = (uint16_t)(high * 256 + low);
+    return 1;
+}
+
+static int read_signed(int16_t *n)
+{
+    uint16_t bits;
+    if (!read_wide(&bits))
+        return 0;
+    *n = (int16_t)(bits < 0x8000 ? bits : bits - 0x10000);
+    return 1;
+}
+
+static int read_date(pagozkin_date *to)
+{
+    return read_wide(&to->year) && read_number(&to->month) && read_number(&to->day);
+}
+
 /* Gives a string its length, and the guards around so many bytes. */
 static void set_length(string *s, size_t length)
 {
@@ -57,10 +86,10 @@ static void set_length(string *s, size_t length)
 
 static int read_string(string *s)
 {
-    uint8_t high, low;
-    if (!read_number(&high) || !read_number(&low))
+    uint16_t length;
+    if (!read_wide(&length))
         return 0;
-    set_length(s, (size_t)high * 256 + low);
+    set_length(s, length);
     return fread(bytes(s), 1, s->length, stdin) == s->length;
 }
 
@@ -148,6 +177,21 @@ static void call_read(void)
 static void call_step(void)
 {
     block = pagozkin_step(bytes(places.printable ? &room : &c), places.length, at);
+}
+
+static void call_renewal_date(void)
+{
+    renewed = pagozkin_renewal_date(date, months);
+}
+
+static void call_weekday(void)
+{
+    day = pagozkin_weekday(date);
+}
+
+static void call_days_between(void)
+{
+    apart = pagozkin_days_between(date, second);
 }
 
 static int is_guarded(string *s)
@@ -263,6 +307,36 @@ static int case_join(void)
     return 0;
 }
 
+static int case_renewal_date(void)
+{
+    if (!read_date(&date) || !read_signed(&months))
+        return 2;
+    if (!called(call_renewal_date, PAGOZKIN_STACK_RENEWAL_DATE))
+        return 1;
+    printf("%u %u %u %u", renewed.number, renewed.date.year, renewed.date.month, renewed.date.day);
+    return 0;
+}
+
+static int case_weekday(void)
+{
+    if (!read_date(&date))
+        return 2;
+    if (!called(call_weekday, PAGOZKIN_STACK_WEEKDAY))
+        return 1;
+    printf("%u %u", day.number, day.weekday);
+    return 0;
+}
+
+static int case_days_between(void)
+{
+    if (!read_date(&date) || !read_date(&second))
+        return 2;
+    if (!called(call_days_between, PAGOZKIN_STACK_DAYS_BETWEEN))
+        return 1;
+    printf("%u %d", apart.number, (int)apart.days);
+    return 0;
+}
+
 static int one_case(int call)
 {
     switch (call) {
@@ -276,6 +350,12 @@ static int one_case(int call)
         return case_reform();
     case 'J':
         return case_join();
+    case 'D':
+        return case_renewal_date();
+    case 'Y':
+        return case_weekday();
+    case 'B':
+        return case_days_between();
     default:
         return 2;
     }

@@ -13,10 +13,13 @@ pagozkin_answer answer;
 pagozkin_written written;
 pagozkin_places places;
 pagozkin_block_places block;
+pagozkin_renewed renewed;
+pagozkin_day_of_week day;
+pagozkin_days_apart apart;
 
-void calls(pagozkin_settings settings, uint8_t *a, uint8_t *b, const uint8_t *c, size_t n);
+void calls(pagozkin_settings settings, pagozkin_date date, uint8_t *a, uint8_t *b, const uint8_t *c, size_t n);
 
-void calls(pagozkin_settings settings, uint8_t *a, uint8_t *b, const uint8_t *c, size_t n)
+void calls(pagozkin_settings settings, pagozkin_date date, uint8_t *a, uint8_t *b, const uint8_t *c, size_t n)
 {
     ANSWER(made) pagozkin_fresh('C', a, n);
     ANSWER(sound) pagozkin_is_sound(settings, a, n);
@@ -26,4 +29,7 @@ void calls(pagozkin_settings settings, uint8_t *a, uint8_t *b, const uint8_t *c,
     ANSWER(written) pagozkin_join(PAGOZKIN_PLAIN_FORM, c, n, c, n, a, n);
     ANSWER(places) pagozkin_read(c, n, a);
     ANSWER(block) pagozkin_step(c, n, 0);
+    ANSWER(renewed) pagozkin_renewal_date(date, 1);
+    ANSWER(day) pagozkin_weekday(date);
+    ANSWER(apart) pagozkin_days_between(date, date);
 }

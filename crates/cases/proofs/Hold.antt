@@ -1,10 +1,16 @@
 -- Every number is answered where the tables say so and not by its neighbour; every witness shows what it should. By computing.
 use mathlib.Core.Path.{_≡_, refl}
 use mathlib.Core.Bool.{true}
+use Rattle.dates.specs.Calendar.{february, monthLength, isDate}
+use Rattle.signed.specs.Floor.{floorDiv, floorMod}
+use Rattle.renewal.specs.Counting.{exists, monthNumber, lengthOf, daysBefore, dayNumber}
+use Rattle.renewal.specs.Renewing.{isCount, yearOf, monthOf, isYear, kept, reached, renewalDate}
+use Rattle.renewal.specs.Days.{weekday, daysBetween}
 use Rattle.sheet.specs.Sheet.{bytes, start, inTurn, onFresh}
 use Rattle.sheet.proofs.Computing.{base}
 use Rattle.cases.specs.Numbers.{numberOf, blockNumber, holds, allHold, times, numbersTable}
 use Rattle.cases.specs.Dates.{eachWay, datesTable}
+use Rattle.cases.specs.Renewals.{AllAnswer, renewalsTable}
 use Rattle.cases.specs.Witnesses.{AllShow, witnesses}
 
 pub numbers : allHold numbersTable ≡ true
@@ -14,6 +20,15 @@ numbers = refl
 pub dates : allHold datesTable ≡ true
 unfolding numberOf blockNumber holds allHold eachWay datesTable bytes start inTurn onFresh base
 dates = refl
+
+pub renewals : AllAnswer renewalsTable
+unfolding
+    renewalsTable
+    february monthLength isDate floorDiv floorMod
+    exists monthNumber lengthOf daysBefore dayNumber
+    isCount yearOf monthOf isYear kept reached renewalDate
+    weekday daysBetween
+renewals = (refl, (refl, (refl, (refl, (refl, (refl, (refl, (refl, (refl, (refl, (refl, (refl, (refl, (refl, (refl, (refl, (refl, (refl, (refl, (refl, (refl, (refl, (refl, (refl, (refl, (refl, (refl, (refl, (refl, (refl, (refl, (refl, (refl, (refl, (refl, (refl, (refl, (refl, (refl, (refl, (refl, tt)))))))))))))))))))))))))))))))))))))))))
 
 pub shown : AllShow witnesses
 unfolding witnesses bytes start inTurn onFresh base

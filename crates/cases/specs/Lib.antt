@@ -1,3 +1,4 @@
 pub mod Numbers
 pub mod Dates
+pub mod Renewals
 pub mod Witnesses

@@ -6,7 +6,7 @@ ghost use Rattle.dates.specs.Calendar.{FIRST-YEAR, LAST-YEAR, february, 
 // "years being 2000 to 2099"
 pub const FIRST_YEAR: u16 = 2000;
 
-const LAST_YEAR: u16 = 2099;
+pub const LAST_YEAR: u16 = 2099;
 
 // one of these years
 fn is_year(year: u16) -> bool

@@ -1,15 +1,23 @@
--- What C is told of a frame and of a block, case by case.
+-- What C is told of a frame, of a block and of a renewal, case by case.
 use Prim.Native.Nat.{ℕ}
 use mathlib.Core.Path.{_≡_, refl, sym, ap, _∙_}
 use mathlib.Core.Bool.{Bool}
 use mathlib.Core.List.{List}
 use lib.ListN.{length}
 use borrow.Author.Needs.{needs}
+use lib.IntN.{ℤ}
+use mir.Syntax.{w16}
+use mir.Val.{SFits}
+use mir.Facts.{toZ-ofZ}
 use Rattle.body.specs.Readers.{placeBehind}
 use Rattle.body.specs.declared.BlockStep.{BlockStep}
 use Rattle.body.specs.declared.BlockStep.the-variants.{Stray, More, Last}
 use Rattle.reading.specs.Places.{Reads}
 use Rattle.reading.specs.declared.Read.{Read}
+use Rattle.signed.proofs.Held.{held}
+use Rattle.renewal.specs.Renewing.{renewalDate}
+use Rattle.renewal.specs.declared.Date.{Date}
+use Rattle.renewal.specs.declared.Renewed.{Renewed}
 use Rattle.port.specs.Truth.{truth}
 use Rattle.port.specs.declared.Places.{Places}
 use Rattle.port.specs.declared.BlockPlaces.{BlockPlaces}
@@ -50,3 +58,10 @@ unfolding blockAs placeBehind
 told-left s Stray = refl
 told-left s (More c i j r n) = refl
 told-left s (Last c i j r) = refl
+
+-- ---- a renewal: the count is passed on as its bits
+
+pub told-renewed : (first : Date) (n : ℤ) (r : Renewed) → SFits w16 n → r ≡ renewalDate first (held w16 n) → r ≡ renewalDate first n
+told-renewed first n r f e = e ∙ ap (renewalDate first) (toZ-ofZ f)
+
+pub ruleset renewing = (told-renewed, needs)

@@ -1,13 +1,17 @@
 // Replays a stream of cases from standard input through the public calls, a line of output for each.
-// A case is a call byte and its arguments: a number is one byte, a string its length in two bytes, most significant first, and its bytes.
+// A case is a call byte and its arguments: a number is one byte, or two with the most significant first (a signed one in two's
+// complement), a string its length in two bytes and its bytes.
 ghost use Prim.Native.Nat.{_+_, _<_, _≤_};
 ghost use lib.ListN.{length};
 ghost use Rattle.io.specs.Counts.{Counts};
 use board::Settings;
 use libc::STDIN_FILENO;
 use libc::STDOUT_FILENO;
+use renewal::Date;
 use sign::Answer;
 use sign::Tally;
+use signed::plain::from_bits;
+use signed::plain::size;
 use writing::Written;
 
 // What reading an argument finds: how many bytes it has, and whether the input held them all.
@@ -341,6 +345,83 @@ fn case_j(first: &mut [u8], second: &mut [u8], out: &mut [u8]) -> bool {
     call_j(form, &first[..i], &second[..j], &mut out[..k])
 }
 
+fn two(high: u8, low: u8) -> u16 {
+    high as u16 * 256 + low as u16
+}
+
+fn date(high: u8, low: u8, month: u8, day: u8) -> Date {
+    Date {
+        year: two(high, low),
+        month: month,
+        day: day,
+    }
+}
+
+fn print_signed(z: i32) {
+    if z < 0 {
+        io::write_all(STDOUT_FILENO, b"-");
+    }
+    io::print_decimal(STDOUT_FILENO, size(z) as u64);
+}
+
+fn call_d(first: Date, months: i16) -> bool {
+    let r = renewal::renewing::renewal_date(first, months);
+    number(r.number as u64);
+    number(r.date.year as u64);
+    number(r.date.month as u64);
+    io::print_decimal(STDOUT_FILENO, r.date.day as u64);
+    line();
+    true
+}
+
+fn case_d() -> bool {
+    let mut b = [0u8; 6];
+    let n = io::read_full(STDIN_FILENO, &mut b);
+    if n != 6 {
+        return bad();
+    }
+    let first = date(b[0], b[1], b[2], b[3]);
+    let months = from_bits(two(b[4], b[5]));
+    call_d(first, months)
+}
+
+fn call_y(date: Date) -> bool {
+    let r = renewal::days::weekday(date);
+    number(r.number as u64);
+    io::print_decimal(STDOUT_FILENO, r.weekday as u64);
+    line();
+    true
+}
+
+fn case_y() -> bool {
+    let mut b = [0u8; 4];
+    let n = io::read_full(STDIN_FILENO, &mut b);
+    if n != 4 {
+        return bad();
+    }
+    let date = date(b[0], b[1], b[2], b[3]);
+    call_y(date)
+}
+
+fn call_b(first: Date, second: Date) -> bool {
+    let r = renewal::days::days_between(first, second);
+    number(r.number as u64);
+    print_signed(r.days);
+    line();
+    true
+}
+
+fn case_b() -> bool {
+    let mut b = [0u8; 8];
+    let n = io::read_full(STDIN_FILENO, &mut b);
+    if n != 8 {
+        return bad();
+    }
+    let first = date(b[0], b[1], b[2], b[3]);
+    let second = date(b[4], b[5], b[6], b[7]);
+    call_b(first, second)
+}
+
 // The arrays are main's, so that they are made once; each case has as much of them as it read.
 // A callee that takes an array, and no slice, asks no proof of its length.
 fn one_case(a: &mut [u8; 65535], b: &mut [u8; 65535], c: &mut [u8; 65535]) -> bool {
@@ -361,6 +442,15 @@ fn one_case(a: &mut [u8; 65535], b: &mut [u8; 65535], c: &mut [u8; 65535]) -> bo
     }
     if call == b'J' {
         return case_j(a, b, c);
+    }
+    if call == b'D' {
+        return case_d();
+    }
+    if call == b'Y' {
+        return case_y();
+    }
+    if call == b'B' {
+        return case_b();
     }
     bad()
 }

@@ -5,6 +5,8 @@ pub mod boards;
 pub mod dates;
 pub mod dice;
 pub mod frames;
+pub mod full_dates;
+pub mod reckoning;
 
 use std::io::{self, Write};
 
@@ -16,12 +18,13 @@ use crate::bytes::LOWEST_DATA;
 use crate::run::REPLY_MARGIN;
 use crate::soundness::{LEAST_MEMORY, MOST_MEMORY};
 use crate::stream::{
-    Answer, Case, CALLS, FRESH_CALL, JOIN_CALL, REFORM_CALL, RUN_CALL, WRITE_CALL,
+    Answer, Case, CALLS, DAYS_CALL, FRESH_CALL, JOIN_CALL, REFORM_CALL, RENEWAL_CALL, RUN_CALL,
+    WEEKDAY_CALL, WRITE_CALL,
 };
 use crate::translation::{MOST_PRINTABLE, MOST_TRANSLATED};
 
 /// How often each call is made, in the order of [`CALLS`].
-const WEIGHTS: [usize; 5] = [8, 56, 14, 20, 18];
+const WEIGHTS: [usize; CALLS.len()] = [8, 56, 14, 20, 18, 18, 7, 10];
 
 /// Writes so many cases, of these calls only.
 pub fn write_cases(
@@ -47,6 +50,9 @@ pub fn any_case(dice: &mut Dice, calls: &[u8]) -> Option<Case> {
         WRITE_CALL => Some(write_case(dice)),
         REFORM_CALL => Some(reform_case(dice)),
         JOIN_CALL => Some(join_case(dice)),
+        RENEWAL_CALL => Some(reckoning::renewal_case(dice)),
+        WEEKDAY_CALL => Some(reckoning::weekday_case(dice)),
+        DAYS_CALL => Some(reckoning::days_case(dice)),
         _ => None,
     }
 }
@@ -335,7 +341,7 @@ fn with_some_output(dice: &mut Dice, case: Case) -> Case {
 fn written_length(case: &Case) -> usize {
     match case.clone().with_output(vec![0; MOST_PRINTABLE]).answer() {
         Answer::Output { written, .. } => written.length,
-        Answer::Fresh { .. } | Answer::Run { .. } => 0,
+        _ => 0,
     }
 }
 

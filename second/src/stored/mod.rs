@@ -3,9 +3,13 @@
 
 pub mod boards;
 pub mod build;
+pub mod calendar;
 pub mod dates;
+pub mod days_between;
 pub mod full;
 pub mod outputs;
+pub mod renewals;
+pub mod weekdays;
 
 use std::io::{self, Write};
 
@@ -23,12 +27,16 @@ pub struct Stored {
 }
 
 /// All fixed cases: writing, re-forming and joining first, then the boards,
-/// the full ones behind the others, then the dates.
+/// the full ones behind the others, then the dates of boards, then the calls
+/// that reckon with dates.
 pub fn all() -> Vec<Stored> {
     let mut cases = outputs::all();
     cases.extend(boards::all());
     cases.extend(full::all());
     cases.extend(dates::all());
+    cases.extend(renewals::all());
+    cases.extend(weekdays::all());
+    cases.extend(days_between::all());
     cases
 }
 

@@ -197,13 +197,16 @@ pub fn reply_of(code_label_data: &[u8], sum: &[u8]) -> Vec<u8> {
 
 /// The numbers that each call can answer; those of a run's first refused block
 /// stand under "r".
-const NUMBERS: [(u8, &[u8]); 6] = [
+const NUMBERS: [(u8, &[u8]); 9] = [
     (b'N', &[0, 10, 11]),
     (b'R', &[0, 1, 2, 3, 4, 5, 6, 7, 8, 9]),
     (b'r', &[20, 21, 22, 23, 24, 25, 26, 27]),
     (b'W', &[0, 6, 14, 15, 16, 18]),
     (b'F', &[0, 3, 4, 5, 6, 7, 8, 14, 15, 17, 18]),
     (b'J', &[0, 3, 4, 5, 6, 7, 8, 12, 13, 14, 15, 17, 18]),
+    (b'D', &[0, 30, 31, 32]),
+    (b'Y', &[0, 30]),
+    (b'B', &[0, 30]),
 ];
 
 /// Checks that of each call all its numbers were seen, and no others.

@@ -1,10 +1,11 @@
 //! What is looked for in a stream of cases, the random and the fixed ones: the
-//! ends of what document 01 allows, every command on a crowded board, and the
-//! end of every month as a command and on a board.
+//! ends of what document 01 allows, every command on a crowded board, the end
+//! of every month as a command and on a board, and what request 6 reckons.
 
 use std::collections::{BTreeMap, BTreeSet};
 
 use crate::dates::{sorts_of, sorts_of_text, wanted_sorts, Sort};
+use crate::reckoned::{shown_by, wanted as wanted_of_reckoning, Shown};
 use second::body::{Block, MOST_BLOCKS};
 use second::bytes::{
     CONFIGURATION, DATE, EOT, POOL, READ_SPECIAL, READ_STRING, READ_TEXT, SERIAL_ADDRESS, SPEAKER,
@@ -88,6 +89,8 @@ pub enum Fact {
     SetDate(Sort),
     /// A board with a date of this sort, all else sound and good: 0, or 1.
     BoardDate(Sort),
+    /// A renewal date, a weekday or the days between two dates.
+    Reckoned(Shown),
 }
 
 /// All that is looked for.
@@ -123,6 +126,7 @@ pub fn wanted() -> Vec<Fact> {
     wanted.extend(READ.map(|label| Fact::Function(READ_SPECIAL, label)));
     wanted.extend(wanted_sorts().into_iter().map(Fact::SetDate));
     wanted.extend(wanted_sorts().into_iter().map(Fact::BoardDate));
+    wanted.extend(wanted_of_reckoning().into_iter().map(Fact::Reckoned));
     wanted
 }
 
@@ -169,6 +173,9 @@ impl Seen {
 
     fn look_at(&mut self, case: Case) {
         let answer = case.clone().answer();
+        for shown in shown_by(&case, &answer) {
+            self.add(Fact::Reckoned(shown));
+        }
         match (case, answer) {
             (Case::Fresh { memory, .. }, Answer::Fresh { made, .. }) => {
                 self.add(Fact::Fresh(memory.len(), made.number));

@@ -14,7 +14,7 @@ fn is_leap_year(year: u8) -> bool {
 }
 
 /// The length of a month, 1 to 12.
-fn length(month: u8, is_leap: bool) -> u8 {
+pub fn length(month: u8, is_leap: bool) -> u8 {
     let leap_day = u8::from(month == 2 && is_leap);
     LENGTHS[usize::from(month) - 1] + leap_day
 }

@@ -1,27 +1,45 @@
 //! The random cases: every number that a call can answer occurs, most runs are
-//! on sound, addressed boards, both ends of every bound are reached, and so is
-//! the end of every month.
+//! on sound, addressed boards, both ends of every bound are reached, and so are
+//! the end of every month and every end of what request 6 reckons.
 
 use std::collections::BTreeMap;
 
 use crate::common::assert_every_number;
 use crate::coverage::{Fact, Seen};
+use crate::reckoned::{wanted as wanted_of_reckoning, Shown};
 use second::cases::any_case;
 use second::cases::boards::{small, sound};
 use second::cases::dates::wrong;
 use second::cases::dice::Dice;
 use second::cases::write_cases;
 use second::soundness::{is_sound, LEAST_MEMORY, MOST_MEMORY};
-use second::stream::{next_case, Answer, Case, Next, CALLS, RUN_CALL};
+use second::stream::{
+    next_case, Answer, Case, Next, CALLS, DAYS_CALL, RENEWAL_CALL, RUN_CALL, WEEKDAY_CALL,
+};
 
-const CASES: usize = 5_000;
+const CASES: usize = 6_900;
 
 /// The seed and the number of the cases on which .ci/run compares the two
 /// implementations: `seed` and `count` there.
 const GATE_SEED: u64 = 20_261_115;
-const GATE_COUNT: usize = 5_000;
+const GATE_COUNT: usize = 6_900;
 /// What these cases may take, so that both programs stay quick.
 const GATE_MOST_BYTES: usize = 15_000_000;
+/// The calls on frames and boards, and how often at least each comes up in these
+/// cases, so that a call that is added takes nothing from them.
+const GATE_LEAST: [(u8, usize); 5] = [
+    (b'N', 337),
+    (b'R', 2_424),
+    (b'W', 585),
+    (b'F', 835),
+    (b'J', 819),
+];
+/// How often at least these cases show what is looked for in the calls that
+/// reckon with dates.
+const GATE_SEVERAL: usize = 3;
+/// The same for their numbers, for going back over a year's beginning, for every
+/// weekday and for days of either sign.
+const GATE_OFTEN: usize = 20;
 
 /// How often each call answered each number; the first refused block's number
 /// of a run counts under "r".
@@ -114,20 +132,65 @@ fn gate_cases() -> Vec<Case> {
     cases
 }
 
+/// The cases of the gate make every call often enough.
+#[test]
+fn the_gate_makes_every_call() {
+    let cases = gate_cases();
+    let count = |call| cases.iter().filter(|case| case.call() == call).count();
+    for call in CALLS {
+        println!("{} {}", count(call), char::from(call));
+    }
+    for (call, least) in GATE_LEAST {
+        assert!(count(call) >= least, "{} {}", count(call), char::from(call));
+    }
+    assert!(count(RENEWAL_CALL) >= 700);
+    assert!(count(WEEKDAY_CALL) >= 250);
+    assert!(count(DAYS_CALL) >= 350);
+}
+
+/// How often at least the gate's cases are to show something of the calls that
+/// reckon with dates: each way not to exist once for each call.
+fn least_of(shown: Shown) -> usize {
+    match shown {
+        Shown::Wrong(..) => 1,
+        Shown::Number(..) | Shown::BackOverYear { .. } | Shown::Weekday(_) | Shown::Sign(_) => {
+            GATE_OFTEN
+        }
+        _ => GATE_SEVERAL,
+    }
+}
+
+/// The cases of the gate show all that is looked for in the calls that reckon
+/// with dates, most of it several times.
+#[test]
+fn the_gate_reckons_at_every_end() {
+    let seen = Seen::in_cases(gate_cases().into_iter());
+    for shown in wanted_of_reckoning() {
+        let count = seen.count(Fact::Reckoned(shown));
+        println!("{count} {shown:?}");
+    }
+    for shown in wanted_of_reckoning() {
+        let count = seen.count(Fact::Reckoned(shown));
+        assert!(count >= least_of(shown), "{count} {shown:?}");
+    }
+}
+
 /// The cases of the gate reach both ends of what document 01 allows, every
 /// command on a crowded board and the end of every month; more than a third of
-/// them are runs on sound boards.
+/// those on frames and boards are runs on sound boards.
 #[test]
 fn the_gate_reaches_every_end() {
     let cases = gate_cases();
     assert_eq!(cases.len(), GATE_COUNT);
     let runs = cases.iter().filter(|case| case.call() == RUN_CALL).count();
+    let is_older = |case: &&Case| b"NRWFJ".contains(&case.call());
+    let older = cases.iter().filter(is_older).count();
     let seen = Seen::in_cases(cases.into_iter());
     seen.assert_all();
     let lengths = LEAST_MEMORY..=MOST_MEMORY;
     let sound: usize = lengths.map(|length| seen.count(Fact::Memory(length))).sum();
     println!("{sound} runs on sound boards");
-    assert!(3 * sound >= GATE_COUNT, "{sound} of {GATE_COUNT}");
+    assert!(3 * sound >= older, "{sound} of {older}");
     let crowded: usize = (40..=64).map(|files| seen.count(Fact::Files(files))).sum();
     println!("{crowded} of {runs} runs on 40 to 64 files");
     assert!(10 * crowded >= runs, "{crowded} of {runs}");

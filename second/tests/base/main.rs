@@ -1,19 +1,24 @@
-//! The tests of the base of document 01 and of request 1 of document 02, one
-//! idea to a file.
+//! The tests of the base of document 01 and of requests 1 and 6 of document 02,
+//! one idea to a file.
 #![forbid(unsafe_code)]
 
+mod calendar;
 mod common;
 mod coverage;
 mod dates;
+mod days_between;
 mod edges_of_blocks;
 mod edges_of_frames;
 mod edges_of_outputs;
 mod generated;
 mod headers;
 mod orders;
+mod reckoned;
+mod renewal;
 mod sheet;
 mod soundness;
 mod source_frames;
 mod stored;
 mod stream;
 mod twelve;
+mod weekday;

@@ -3,10 +3,12 @@
 
 use std::collections::BTreeSet;
 
+use crate::calendar::{calendar, date, day_after, FIRST_DAY};
 use crate::common::assert_every_number;
 use crate::coverage::Seen;
+use second::dates::Date;
 use second::stored::{all, write_stored, Stored};
-use second::stream::CALLS;
+use second::stream::{Case, CALLS};
 
 #[test]
 fn each_gives_its_number() {
@@ -40,7 +42,8 @@ fn every_refusal_is_there() {
 }
 
 /// The fixed cases reach both ends of what document 01 allows, every command
-/// on a full board and the end of every month.
+/// on a full board, the end of every month and every end of what request 6
+/// reckons.
 #[test]
 fn every_end_is_there() {
     let cases = all().into_iter().map(|stored| stored.case);
@@ -64,4 +67,46 @@ fn writing_comes_first_and_the_whole_is_small() {
     let mut outputs = Vec::new();
     write_stored(&mut outputs, b"WFJ").expect("memory takes it");
     assert!(stream.starts_with(&outputs));
+}
+
+/// The calls that reckon with dates stand behind all others, which keep their
+/// places whatever is added.
+#[test]
+fn reckoning_comes_last() {
+    let cases = all();
+    let is_reckoning = |stored: &Stored| b"DYB".contains(&stored.case.call());
+    let first = cases.iter().position(is_reckoning).expect("there are some");
+    assert!(cases[first..].iter().all(is_reckoning));
+    let mut stream = Vec::new();
+    write_stored(&mut stream, &CALLS).expect("memory takes it");
+    let mut others = Vec::new();
+    write_stored(&mut others, b"NRWFJ").expect("memory takes it");
+    println!("{first} and {} cases", cases.len() - first);
+    assert!(stream.starts_with(&others));
+}
+
+/// The request's own examples are there, and the first and the last day of all
+/// 1,200 months.
+#[test]
+fn examples_of_request_6() {
+    let cases: Vec<Case> = all().into_iter().map(|stored| stored.case).collect();
+    for count in [1, 2] {
+        let first = date(2_001, 1, 31);
+        assert!(cases.contains(&Case::Renewal { first, count }));
+    }
+    let asked: BTreeSet<Date> = cases.iter().filter_map(date_of_weekday).collect();
+    assert!(asked.contains(&FIRST_DAY));
+    for (day, _) in &calendar().days {
+        if day.day == 1 || day_after(*day).day == 1 {
+            assert!(asked.contains(day), "{day:?}");
+        }
+    }
+}
+
+/// The date whose weekday a case asks for.
+fn date_of_weekday(case: &Case) -> Option<Date> {
+    match case {
+        Case::Weekday { date } => Some(*date),
+        _ => None,
+    }
 }

@@ -3,6 +3,7 @@
 use std::io::Write;
 use std::process::{Command, Output, Stdio};
 
+use crate::calendar::{date, FIRST_DAY, LAST_DAY};
 use second::settings::Settings;
 use second::stream::{line, next_case, replay, Case, Ended, Next};
 
@@ -98,6 +99,69 @@ fn a_write_a_reforming_and_a_joining() {
     assert_eq!(lines(&all).lines().count(), 3);
     let short = [b"F\x01".to_vec(), string(frame), string(b"")].concat();
     assert_eq!(lines(&short), "14 0 -\n");
+}
+
+/// Years and counts in two bytes, the most significant first; counts in two's
+/// complement.
+#[test]
+fn a_renewal() {
+    // 31 January 2001: 07D1H, 1, 31.
+    assert_eq!(lines(b"D\x07\xD1\x01\x1F\x00\x01"), "0 2001 2 28\n");
+    assert_eq!(lines(b"D\x07\xD1\x01\x1F\x00\x02"), "0 2001 3 31\n");
+    assert_eq!(lines(b"D\x07\xD1\x01\x1F\xFF\xFF"), "0 2000 12 31\n");
+    // 1,199 is 04AFH and -1,199 FB51H.
+    assert_eq!(lines(b"D\x07\xD0\x01\x01\x04\xAF"), "0 2099 12 1\n");
+    assert_eq!(lines(b"D\x08\x33\x0C\x1F\xFB\x51"), "0 2000 1 31\n");
+    assert_eq!(lines(b"D\x07\xD0\x0D\x01\x00\x00"), "30 0 0 0\n");
+    assert_eq!(lines(b"D\x07\xD0\x01\x01\x04\xB0"), "31 0 0 0\n");
+    assert_eq!(lines(b"D\x07\xD0\x01\x01\x80\x00"), "31 0 0 0\n");
+    assert_eq!(lines(b"D\x07\xD0\x01\x01\xFF\xFF"), "32 0 0 0\n");
+}
+
+#[test]
+fn a_weekday() {
+    assert_eq!(lines(b"Y\x07\xD0\x01\x01"), "0 7\n");
+    assert_eq!(lines(b"Y\x07\xD0\x01\x02"), "0 1\n");
+    assert_eq!(lines(b"Y\xD0\x07\x01\x01"), "30 0\n");
+    assert_eq!(lines(b"Y\x08\x34\x01\x01"), "30 0\n");
+}
+
+/// Days "are printed in decimal, with "-" below 0".
+#[test]
+fn days() {
+    let first = b"\x07\xD0\x01\x01".as_slice();
+    let last = b"\x08\x33\x0C\x1F".as_slice();
+    let none = b"\x07\xCF\x0C\x1F".as_slice();
+    let line_of = |one: &[u8], other: &[u8]| lines(&[b"B", one, other].concat());
+    assert_eq!(line_of(first, last), "0 36524\n");
+    assert_eq!(line_of(last, first), "0 -36524\n");
+    assert_eq!(line_of(first, first), "0 0\n");
+    assert_eq!(line_of(none, first), "30 0\n");
+    assert_eq!(line_of(first, none), "30 0\n");
+}
+
+/// A case of request 6 that ends too early, wherever it ends; one byte more
+/// begins the next case.
+#[test]
+fn reckoning_cut_short() {
+    let renewal = b"D\x07\xD1\x01\x1F\x00\x01".as_slice();
+    let weekday = b"Y\x07\xD0\x01\x01".as_slice();
+    let days = b"B\x07\xD0\x01\x01\x08\x33\x0C\x1F".as_slice();
+    for (case, line) in [
+        (renewal, "0 2001 2 28\n"),
+        (weekday, "0 7\n"),
+        (days, "0 36524\n"),
+    ] {
+        for length in 1..case.len() {
+            let stream = [case, &case[..length]].concat();
+            let expected = (format!("{line}bad case\n"), Ended::BadCase);
+            assert_eq!(replayed(&stream), expected, "{length}");
+        }
+        let stream = [case, b"\0"].concat();
+        let expected = (format!("{line}bad case\n"), Ended::BadCase);
+        assert_eq!(replayed(&stream), expected);
+        assert_eq!(lines(&[case, case].concat()), line.repeat(2));
+    }
 }
 
 #[test]
@@ -199,6 +263,15 @@ fn what_is_encoded_is_read_again() {
             first: text(6),
             second: text(7),
             output: text(8),
+        },
+        Case::Renewal {
+            first: date(0x1234, 0x56, 0x78),
+            count: -0x1234,
+        },
+        Case::Weekday { date: LAST_DAY },
+        Case::Days {
+            first: FIRST_DAY,
+            second: date(65_535, 0, 255),
         },
     ] {
         let bytes = case.encode();

@@ -1,0 +1,6 @@
+-- Renewal dates, weekdays, days between dates.
+pub mod Counting
+pub mod Renewing
+pub mod Days
+pub mod Stays
+pub mod Following

@@ -1,0 +1,4 @@
+-- Laws of signed numbers.
+pub mod Held
+pub mod Bits
+pub mod Twelve

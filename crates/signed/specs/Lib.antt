@@ -1,0 +1,2 @@
+-- Signed numbers.
+pub mod Floor

@@ -1,0 +1,277 @@
+//! Cases of the calls that reckon with dates, request 6: the renewal date, the
+//! weekday and the days between two dates.
+
+use super::dice::Dice;
+use super::full_dates::{common_year, in_month, last_day, late, leap_day, leap_year, real, wrong};
+use crate::dates::{Date, FIRST_YEAR, LAST_YEAR};
+use crate::stream::Case;
+
+/// The months from January 2000 to December 2099, numbered from 0.
+const FIRST_MONTH: i16 = 0;
+const LAST_MONTH: i16 = 1_199;
+const MONTHS_OF_YEAR: i16 = 12;
+/// Counts at either end of their range, one month inside and one outside.
+const COUNTS_AT_THE_ENDS: [i16; 6] = [-1_200, -1_199, -1_198, 1_198, 1_199, 1_200];
+/// The same, with those around a month and a year, and the ends of two bytes.
+const CHOSEN_COUNTS: [i16; 17] = [
+    i16::MIN,
+    -1_200,
+    -1_199,
+    -1_198,
+    -13,
+    -12,
+    -11,
+    -1,
+    0,
+    1,
+    11,
+    12,
+    13,
+    1_198,
+    1_199,
+    1_200,
+    i16::MAX,
+];
+/// How far inside an end of 2000 to 2099 (below 0: outside) a result is meant to
+/// be: at the end itself, a month off and about a year off.
+const OFF_AN_END: [i16; 6] = [-13, -12, -11, -1, 0, 1];
+/// No result is meant to be further off an end than this.
+const FURTHEST: usize = 14;
+
+const FIRST_DAY: Date = Date {
+    year: FIRST_YEAR,
+    month: 1,
+    day: 1,
+};
+const LAST_DAY: Date = Date {
+    year: LAST_YEAR,
+    month: 12,
+    day: 31,
+};
+
+/// A renewal: most times from a date that exists, about half of them to a date.
+pub fn renewal_case(dice: &mut Dice) -> Case {
+    match dice.below(100) {
+        0..=13 => wrong_date_renewal(dice),
+        14..=27 => chosen_count_renewal(dice),
+        28..=31 => any_count_renewal(dice),
+        32..=42 => longest_renewal(dice),
+        43..=56 => renewal_near_an_end(dice),
+        57..=66 => renewal_over_an_end(dice),
+        67..=80 => renewal_to_february(dice),
+        81..=88 => short_renewal(dice),
+        _ => renewal_inside(dice),
+    }
+}
+
+/// A date that does not exist, by a good count or by a wrong one.
+fn wrong_date_renewal(dice: &mut Dice) -> Case {
+    let any = any_count(dice);
+    let chosen = dice.one_of(CHOSEN_COUNTS);
+    Case::Renewal {
+        first: wrong(dice),
+        count: dice.one_of([0, 1, chosen, chosen, any]),
+    }
+}
+
+fn chosen_count_renewal(dice: &mut Dice) -> Case {
+    Case::Renewal {
+        first: real(dice),
+        count: dice.one_of(CHOSEN_COUNTS),
+    }
+}
+
+/// Any count that two bytes hold, nearly always out of range.
+fn any_count_renewal(dice: &mut Dice) -> Case {
+    Case::Renewal {
+        first: real(dice),
+        count: any_count(dice),
+    }
+}
+
+/// By the longest counts, mostly from the end of 2000 to 2099 from which alone
+/// they lead to a date.
+fn longest_renewal(dice: &mut Dice) -> Case {
+    let count = dice.one_of(COUNTS_AT_THE_ENDS);
+    let is_from_start = (count > 0) != dice.chance(15);
+    let month = if is_from_start {
+        dice.one_of([FIRST_MONTH, FIRST_MONTH + 1])
+    } else {
+        dice.one_of([LAST_MONTH - 1, LAST_MONTH])
+    };
+    Case::Renewal {
+        first: in_numbered_month(dice, month),
+        count,
+    }
+}
+
+/// To a month near January 2000 or near December 2099, inside or outside.
+fn renewal_near_an_end(dice: &mut Dice) -> Case {
+    let any = dice.between(0, 2 * FURTHEST) as i16 - FURTHEST as i16;
+    let chosen = dice.one_of(OFF_AN_END);
+    let inside = dice.one_of([chosen, chosen, any]);
+    let target = dice.one_of([FIRST_MONTH + inside, LAST_MONTH - inside]);
+    let first = real(dice);
+    renewal_to(first, target)
+}
+
+/// By a month or about a year, from the first year back or from the last year
+/// forward: mostly outside.
+fn renewal_over_an_end(dice: &mut Dice) -> Case {
+    let any = dice.below(12) as i16;
+    let from_end = dice.one_of([0, 0, any]);
+    let count = dice.one_of([1, 11, 12, 13]);
+    if dice.chance(50) {
+        Case::Renewal {
+            first: in_numbered_month(dice, FIRST_MONTH + from_end),
+            count: -count,
+        }
+    } else {
+        Case::Renewal {
+            first: in_numbered_month(dice, LAST_MONTH - from_end),
+            count,
+        }
+    }
+}
+
+/// From a day that not every month has to February of a leap year or of another
+/// one.
+fn renewal_to_february(dice: &mut Dice) -> Case {
+    let first = if dice.chance(30) {
+        leap_day(dice)
+    } else {
+        late(dice)
+    };
+    let year = if dice.chance(50) {
+        leap_year(dice)
+    } else {
+        common_year(dice)
+    };
+    let february = Date {
+        year,
+        month: 2,
+        day: 1,
+    };
+    renewal_to(first, month_number(february))
+}
+
+/// By up to two years, forward or back: over short months and year ends.
+fn short_renewal(dice: &mut Dice) -> Case {
+    let count = dice.below(49) as i16 - 24;
+    Case::Renewal {
+        first: real(dice),
+        count,
+    }
+}
+
+/// To any month of 2000 to 2099.
+fn renewal_inside(dice: &mut Dice) -> Case {
+    let first = real(dice);
+    let target = dice.below(1_200) as i16;
+    renewal_to(first, target)
+}
+
+/// The renewal that leads from a date to the month of this number.
+fn renewal_to(first: Date, target: i16) -> Case {
+    let count = target - month_number(first);
+    Case::Renewal { first, count }
+}
+
+/// The number of the month of a date that exists.
+fn month_number(date: Date) -> i16 {
+    let years = (date.year - FIRST_YEAR) as i16;
+    MONTHS_OF_YEAR * years + i16::from(date.month) - 1
+}
+
+/// A date in the month of this number, from 0 to 1,199.
+fn in_numbered_month(dice: &mut Dice, number: i16) -> Date {
+    let year = FIRST_YEAR + (number / MONTHS_OF_YEAR) as u16;
+    let month = (number % MONTHS_OF_YEAR) as u8 + 1;
+    in_month(dice, year, month)
+}
+
+/// Any count that two bytes hold.
+fn any_count(dice: &mut Dice) -> i16 {
+    i16::from_be_bytes([dice.byte(0, u8::MAX), dice.byte(0, u8::MAX)])
+}
+
+/// The weekday, most times of a date that exists.
+pub fn weekday_case(dice: &mut Dice) -> Case {
+    let date = if dice.chance(35) {
+        wrong(dice)
+    } else {
+        real(dice)
+    };
+    Case::Weekday { date }
+}
+
+/// The days between two dates, in either order: far apart, near to each other,
+/// equal, the first and the last there are, or with one that does not exist.
+pub fn days_case(dice: &mut Dice) -> Case {
+    let (first, second) = match dice.below(20) {
+        0..=1 => {
+            let date = real(dice);
+            (date, date)
+        }
+        2..=3 => (FIRST_DAY, LAST_DAY),
+        4..=6 => end_of_month(dice),
+        7..=9 => near(dice),
+        10..=12 => one_wrong(dice),
+        13 => (wrong(dice), wrong(dice)),
+        _ => (real(dice), real(dice)),
+    };
+    if dice.chance(50) {
+        Case::Days { first, second }
+    } else {
+        Case::Days {
+            first: second,
+            second: first,
+        }
+    }
+}
+
+/// The last day of a month and the first of the next.
+fn end_of_month(dice: &mut Dice) -> (Date, Date) {
+    let Date { year, month, .. } = real(dice);
+    let last = Date {
+        year,
+        month,
+        day: last_day(year, month),
+    };
+    (last, first_of_next_month(last).unwrap_or(FIRST_DAY))
+}
+
+/// The first of the month after a date's; none after December 2099.
+fn first_of_next_month(date: Date) -> Option<Date> {
+    let (year, month) = match date.month {
+        12 => (date.year + 1, 1),
+        month => (date.year, month + 1),
+    };
+    (year <= LAST_YEAR).then_some(Date {
+        year,
+        month,
+        day: 1,
+    })
+}
+
+/// Two dates in the same year, or one of them on the same day a year or more
+/// away where that date exists.
+fn near(dice: &mut Dice) -> (Date, Date) {
+    let first = real(dice);
+    let month = dice.byte(1, 12);
+    let in_same_year = in_month(dice, first.year, month);
+    let other_year = Date {
+        year: real(dice).year,
+        ..first
+    };
+    if other_year.exists() && dice.chance(30) {
+        (first, other_year)
+    } else {
+        (first, in_same_year)
+    }
+}
+
+/// A date that does not exist and one that does.
+fn one_wrong(dice: &mut Dice) -> (Date, Date) {
+    (wrong(dice), real(dice))
+}
