@@ -1,18 +1,17 @@
 -- Numbers of months and days, weekdays and days between dates, as the code makes them.
-use Prim.Native.Nat.{ℕ, zero, suc, _+_, _*_, _-_, _%_, _≤_, _<_}
+use Prim.Native.Nat.{ℕ, _+_, _*_, _-_, _%_, _≤_, _<_}
 use mathlib.Core.Path.{_≡_, refl, ap, ap₂, _∙_, sym}
 use mathlib.Core.Bool.{Bool, true, false, not, _&&_}
 use native.Mathlib.Omega.{arith}
 use borrow.Author.Needs.{needs}
 use borrow.Author.Tests.{not-true, not-false}
-use lib.IntN.{pos, negsuc, _-ℤ_}
-use lib.Signed.{mag}
+use lib.IntN.{pos, _-ℤ_}
 use mir.Syntax.{w16, w32}
 use mir.Val.{Fits, SFits, toZ}
 use mir.Facts.{toZ-ofZ, toZ-pos}
 use Rattle.octets.proofs.Tests.{split}
 use Rattle.dates.specs.Calendar.{FIRST-YEAR}
-use Rattle.signed.proofs.Held.{held, mag-sum}
+use Rattle.signed.proofs.Held.{held, mag-less}
 use Rattle.renewal.specs.Counting.{exists, monthNumber, daysBefore, dayNumber}
 use Rattle.renewal.specs.Days.{dayOfWeek, weekday, daysApart, daysBetween}
 use Rattle.renewal.specs.declared.Date.{Date}
@@ -72,10 +71,6 @@ module _ (d : Date) (b : Bool) (e : b ≡ exists d) where
 
 -- ---- the days between two dates
 
-mag-less : (i j : ℕ) → mag (pos j -ℤ pos i) ≤ j + i + 1
-mag-less zero j = omega arith
-mag-less (suc i) j = omega (arith, mag-sum (pos j) (negsuc i))
-
 -- c and f are whether they exist
 module _ (a b : Date) (c f : Bool) (e : c ≡ exists a) (g : f ≡ exists b) where
   both : (c && f) ≡ (exists a && exists b)
@@ -103,7 +98,7 @@ module _ (a b : Date) (c f : Bool) (e : c ≡ exists a) (g : f ≡ exists b) whe
       taken = ap₂ _-ℤ_ (toZ-pos w32 {n = m} (omega (arith, to-most))) (toZ-pos w32 {n = n} (omega (arith, from-most)))
 
       pub days-fit : SFits w32 (toZ w32 m -ℤ toZ w32 n)
-      days-fit = rw taken record { sfits = omega (arith, mag-less n m, from-most, to-most) }
+      days-fit = rw taken record { sfits = omega (arith, mag-less (pos m) n, from-most, to-most) }
 
       pub days-are : daysApart 0 (held w32 (toZ w32 m -ℤ toZ w32 n)) ≡ daysBetween a b
       unfolding daysBetween

@@ -79,10 +79,11 @@ module _ (first : Date) (n : ℤ) (x : Renewed) (promise : x ≡ renewalDate fir
       ap (λ (r : Renewed). r .date .day) is-kept
       ∙ rw (le-leb (first .day) (monthLength (yearAt (inside .place)) (monthAt (inside .place))) (omega arith))
 
--- and 0 is answered wherever the month that is reached is one of the 1,200
-pub answers : (first : Date) (n : ℤ) (x : Renewed) → x ≡ renewalDate first n → Inside first n → x .number ≡ 0
+-- and 0 is answered wherever the first date exists and the month that is reached, k, is one of the 1,200
+pub answers : (first : Date) (n : ℤ) (x : Renewed) → x ≡ renewalDate first n → exists first ≡ true → (k : ℕ) → pos (monthNumber first) +ℤ n ≡ pos k → k < 1200 → x .number ≡ 0
 unfolding kept
-answers first n x p i = ap (λ (r : Renewed). r .number) (p ∙ reached-at first n i)
+answers first n x p e k a b =
+    ap (λ (r : Renewed). r .number) (p ∙ reached-at first n (record { there = e; place = k; at = a; below = b }))
 
 -- "adding two counts one after the other equals adding their sum": x by the first count, y from x by the second, z by their sum
 module _ (first : Date) (a b : ℤ) (x y z : Renewed) (one : x ≡ renewalDate first a) (other : y ≡ renewalDate (x .date) b)

@@ -1,4 +1,5 @@
--- Request 6: "Give a permit's first date and a count of months, forward or back, and return the renewal date".
+-- Request 6: "Give a permit's first date and a count of months, forward or back, and return the renewal date". Signed numbers are
+-- written as in signed/specs/Floor: `negsuc y` is -(y + 1).
 use Prim.Native.Nat.{ℕ, _+_}
 use mathlib.Core.Bool.{Bool, false}
 use lib.IntN.{ℤ, pos, negsuc, natAbs, _+ℤ_}

@@ -1,28 +1,24 @@
 -- A signed number from its bits, and without its sign, as the code makes them.
-use Prim.Native.Nat.{ℕ, zero, suc, _+_, _-_, _≤_, _<_}
+use Prim.Native.Nat.{ℕ, suc, _+_, _-_, _≤_, _<_}
 use mathlib.Core.Path.{_≡_, refl, sym, ap, _∙_}
 use mathlib.Core.Bool.{true, false}
 use native.Mathlib.Omega.{arith}
 use borrow.Author.Needs.{needs}
 use borrow.Author.Tests.{ltb-true, le-ltb}
 use lib.Dec.{T}
-use lib.IntN.{ℤ, pos, negsuc, natAbs, _-ℤ_}
+use lib.IntN.{ℤ, pos, negsuc, negℤ, natAbs, _-ℤ_, +ℤ-comm}
 use lib.Signed.{mag, ltZ, nonNeg}
 use mir.Syntax.{w16, w32}
 use mir.Val.{Fits, SFits, toZ}
 use mir.Facts.{toZ-ofZ, toZ-pos}
 use Rattle.octets.proofs.Tests.{never}
-use Rattle.signed.proofs.Held.{held}
+use Rattle.signed.proofs.Held.{held, less-one}
 
 -- ---- from its bits: -1 - k is -(k + 1)
 
-less : (k : ℕ) → negsuc 0 -ℤ pos k ≡ negsuc k
-less zero = refl
-less (suc k) = ap negsuc (omega arith)
-
 module _ (n : ℕ) (g : 32768 ≤ n) (h : n < 65536) where
   lowered : negsuc 0 -ℤ toZ w16 (65535 - n) ≡ negsuc (65535 - n)
-  lowered = ap (λ (z : ℤ). negsuc 0 -ℤ z) (toZ-pos w16 {n = 65535 - n} (omega arith)) ∙ less (65535 - n)
+  lowered = ap (λ (z : ℤ). negsuc 0 -ℤ z) (toZ-pos w16 {n = 65535 - n} (omega arith)) ∙ +ℤ-comm (negsuc 0) (negℤ (pos (65535 - n))) ∙ less-one (65535 - n)
 
   pub bits-fit : SFits w16 (negsuc 0 -ℤ toZ w16 (65535 - n))
   bits-fit = rw lowered record { sfits = omega arith }

@@ -13,7 +13,7 @@ use mir.Val.{Fits, SFits}
 use mir.Facts.{toZ-ofZ}
 use Rattle.octets.proofs.Tests.{never}
 use Rattle.signed.specs.Floor.{floorDiv, floorMod}
-use Rattle.signed.proofs.Held.{held, mag-sum}
+use Rattle.signed.proofs.Held.{held, mag-sum, mag-neg, mag-less, less-one}
 
 -- ---- what it is: twelve times the quotient and what is left make the number again, and less than twelve is left
 
@@ -41,10 +41,6 @@ some-rest (suc r) t = omega arith
 no-rest : (r : ℕ) → ltZ (negℤ (pos r)) (pos 0) ≡ false → r ≡ 0
 no-rest zero t = refl
 no-rest (suc r) t = never t
-
-less-one : (t : ℕ) → negℤ (pos t) -ℤ pos 1 ≡ negsuc t
-less-one zero = refl
-less-one (suc t) = ap negsuc (omega arith)
 
 twelve-more : (r : ℕ) → r ≤ 12 → negℤ (pos r) +ℤ pos 12 ≡ pos (12 - r)
 twelve-more zero h = refl
@@ -79,10 +75,6 @@ mod-same (negsuc n) t =
 
 -- ---- in sixteen bits
 
-mag-neg : (t : ℕ) → mag (negℤ (pos t)) ≤ t
-mag-neg zero = omega arith
-mag-neg (suc t) = omega arith
-
 quot-small : (m : ℤ) → mag m < 32768 → mag (quotZ m (pos 12)) < 2731
 quot-small (pos n) h = omega arith
 quot-small (negsuc n) h = omega (arith, mag-neg (suc n / 12))
@@ -106,7 +98,7 @@ module _ (m : ℤ) (f : SFits w16 m) where
 
   -- some less than the quotient
   pub less-fits : (i : ℕ) → i ≤ 12 → SFits w16 (held w16 (quotZ (held w16 m) (pos 12)) -ℤ pos i)
-  less-fits i h = rw quot record { sfits = omega (arith, mag-sum (quotZ m (pos 12)) (negℤ (pos i)), mag-neg i, quot-small m (f .sfits)) }
+  less-fits i h = rw quot record { sfits = omega (arith, mag-less (quotZ m (pos 12)) i, quot-small m (f .sfits)) }
 
   -- some more than the rest
   pub more-fits : (i : ℕ) → i ≤ 12 → SFits w16 (held w16 (remZ (held w16 m) (pos 12)) +ℤ pos i)
