@@ -101,15 +101,11 @@ pub(super) struct List {
 
 impl List {
     fn fresh(&mut self, about: &str, number: Number, own_type: u8, length: usize) {
-        self.cases.push(Stored {
-            about: about.to_string(),
-            case: Case::Fresh {
-                own_type,
-                memory: vec![FILLER; length],
-            },
-            number,
-            first: 0,
-        });
+        let case = Case::Fresh {
+            own_type,
+            memory: vec![FILLER; length],
+        };
+        self.cases.push(Stored::of_one_number(about, number, case));
     }
 
     /// A run with a reply buffer of so many bytes.

@@ -92,12 +92,7 @@ pub struct List {
 
 impl List {
     fn add(&mut self, about: &str, number: Number, case: Case) {
-        self.cases.push(Stored {
-            about: about.to_string(),
-            case,
-            number,
-            first: 0,
-        });
+        self.cases.push(Stored::of_one_number(about, number, case));
     }
 
     pub fn renewal(&mut self, about: &str, number: Number, first: Date, count: i16) {

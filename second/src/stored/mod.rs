@@ -26,6 +26,18 @@ pub struct Stored {
     pub first: Number,
 }
 
+impl Stored {
+    /// A case of a call that gives only its own number.
+    fn of_one_number(about: &str, number: Number, case: Case) -> Stored {
+        Stored {
+            about: about.to_string(),
+            case,
+            number,
+            first: 0,
+        }
+    }
+}
+
 /// All fixed cases: writing, re-forming and joining first, then the boards,
 /// the full ones behind the others, then the dates of boards, then the calls
 /// that reckon with dates.
