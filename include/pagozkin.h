@@ -20,8 +20,8 @@ extern "C" {
 
 /* The version of header and library: a changed struct, number or call changes the first part, an added one the second part;
  * where only what a call answers has changed, the third. */
-#define PAGOZKIN_VERSION_MAJOR 1
-#define PAGOZKIN_VERSION_MINOR 1
+#define PAGOZKIN_VERSION_MAJOR 2
+#define PAGOZKIN_VERSION_MINOR 0
 #define PAGOZKIN_VERSION_PATCH 0
 
 /* Marks every call: an answer that is thrown away hides a refusal, and a compiler that can shall warn of it. */
@@ -111,7 +111,8 @@ enum {
 /* "Settings travel as one record, handed in and handed back". The library keeps no clock: between runs the firmware's clock writes
  * hour, minute, month, day and year here, these alone and so that time and date exist; else the next run answers 1.
  * Settings that were kept by version 1.0.0 may hold a date such as 31 February. Every run answers 1 then, one that would set the date
- * too: ask pagozkin_is_sound at the start, and write a date that exists here. */
+ * too: ask pagozkin_is_sound at the start, and write a date that exists here. Settings of any version 1 have no unused amount: write
+ * memory's length less, for each file, PAGOZKIN_RECORD and its SIZE. From then on the library keeps it true: leave it alone. */
 typedef struct pagozkin_settings {
     uint8_t hour;    /* 0 to 23 */
     uint8_t minute;  /* 0 to 59 */
@@ -123,6 +124,7 @@ typedef struct pagozkin_settings {
     uint8_t address; /* serial address, "Any address 00 to FF is in range." */
     uint8_t own;     /* own type, "one of Table 4's codes" */
     uint8_t files;   /* "0 to 64 files" */
+    uint16_t unused; /* "the memory length less, for each file, its record and its counted size": 0 to 32,768; else 1 */
 } pagozkin_settings;
 
 /* "A run returns a number, blocks done, blocks refused, .." */

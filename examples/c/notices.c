@@ -1,4 +1,5 @@
-/* Two files are configured on a fresh board, two notices joined into one transmission and run, and one is read back.
+/* Two files are configured on a fresh board, two notices joined into one transmission and run, one is read back, and the unused memory
+ * is told.
  * README.md says how it is built and run; notices.stdout is what it prints. */
 #include <pagozkin.h>
 #include <stdio.h>
@@ -74,5 +75,8 @@ int main(void)
 
     size_t length = run(first, write_frame('B', "B", first));
     print_bytes(reply, length);
+
+    /* For a status page: the settings keep it, so no frame has to ask for it. */
+    printf("unused: %u of %u bytes\n", settings.unused, MEMORY);
     return 0;
 }

@@ -5,16 +5,24 @@ use crate::files::MOST_FILES;
 use crate::hex::frame_digit;
 use crate::numbers::{Number, BAD_LIST, LABEL_TWICE, NO_ROOM};
 use crate::record::{labels_are_distinct, Kind, Record, RECORD_LENGTH};
+use crate::unused::unused;
 
-/// Replaces all files and gives their new number. "faults in a "$" list are
-/// 25 to 27, never 22".
-pub fn configure(list: &[u8], memory: &mut [u8]) -> Result<u8, Number> {
+/// What the settings are told of the new files: how many there are and, by
+/// request 3, the memory that they leave unused.
+#[derive(Clone, Copy, Debug, PartialEq, Eq)]
+pub struct Configured {
+    pub files: u8,
+    pub unused: u16,
+}
+
+/// Replaces all files. "faults in a "$" list are 25 to 27, never 22".
+pub fn configure(list: &[u8], memory: &mut [u8]) -> Result<Configured, Number> {
     let mut records = records(list)?;
-    let count = u8::try_from(records.len()).map_err(|_| BAD_LIST)?;
+    let files = u8::try_from(records.len()).map_err(|_| BAD_LIST)?;
     check_labels(&records)?;
-    give_room(&mut records, memory.len())?;
+    let unused = give_room(&mut records, memory.len())?;
     lay_out(&records, memory);
-    Ok(count)
+    Ok(Configured { files, unused })
 }
 
 /// ""$": bad record, count or length" (25).
@@ -49,24 +57,24 @@ fn check_labels(records: &[Record]) -> Result<(), Number> {
 
 /// "Sizes plus 11 for each must not exceed memory"; a SIZE of 0000 "takes what
 /// remains after its own 11 bytes, at least 1, and the record is stored with
-/// that size" (27).
-fn give_room(records: &mut [Record], memory_length: usize) -> Result<(), Number> {
-    let asked: usize = records.iter().map(|record| record.whole_length()).sum();
-    let remains = memory_length.checked_sub(asked).ok_or(NO_ROOM)?;
-    if let Some(last) = records.last_mut() {
-        if last.size == 0 {
+/// that size" (27). Gives what no file takes.
+fn give_room(records: &mut [Record], memory_length: usize) -> Result<u16, Number> {
+    let remains = unused(memory_length, records).ok_or(NO_ROOM)?;
+    match records.last_mut() {
+        Some(last) if last.size == 0 => {
             last.size = rest_size(remains)?;
+            Ok(0)
         }
+        _ => Ok(remains),
     }
-    Ok(())
 }
 
 /// "what remains after its own 11 bytes, at least 1".
-fn rest_size(remains: usize) -> Result<u16, Number> {
-    match u16::try_from(remains) {
-        Ok(0) | Err(_) => Err(NO_ROOM),
-        Ok(size) => Ok(size),
+fn rest_size(remains: u16) -> Result<u16, Number> {
+    if remains == 0 {
+        return Err(NO_ROOM);
     }
+    Ok(remains)
 }
 
 /// "replaces all files, contents empty"; "Unused memory stays unused."

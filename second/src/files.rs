@@ -74,9 +74,3 @@ pub fn records_text(memory: &[u8], count: u8) -> Vec<u8> {
         .flat_map(|file| file.record.to_bytes())
         .collect()
 }
-
-/// The bytes of memory after the last file.
-pub fn unused(memory: &[u8], count: u8) -> usize {
-    let (_, end) = walk(memory, count).unwrap_or_default();
-    memory.len() - end
-}

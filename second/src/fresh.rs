@@ -5,6 +5,7 @@ use crate::header::is_own_type;
 use crate::numbers::{Number, DONE, WRONG_MEMORY, WRONG_TYPE};
 use crate::settings::Settings;
 use crate::soundness::is_memory_length;
+use crate::unused::unused;
 
 /// What making a fresh board returns.
 #[derive(Clone, Copy, Debug, PartialEq, Eq)]
@@ -16,12 +17,12 @@ pub struct Made {
 /// Makes a fresh board: "memory all zero". "10 to 18: output and memory
 /// untouched, length 0, settings from 10 or 11 all zero."
 pub fn fresh(own_type: u8, memory: &mut [u8]) -> Made {
-    match check(own_type, memory) {
-        Ok(()) => {
+    match settings(own_type, memory.len()) {
+        Ok(settings) => {
             memory.fill(NUL);
             Made {
                 number: DONE,
-                settings: Settings::fresh(own_type),
+                settings,
             }
         }
         Err(number) => Made {
@@ -31,13 +32,15 @@ pub fn fresh(own_type: u8, memory: &mut [u8]) -> Made {
     }
 }
 
-/// "fresh board: wrong type; wrong memory length".
-fn check(own_type: u8, memory: &[u8]) -> Result<(), Number> {
+/// "fresh board: wrong type; wrong memory length". By request 3 they tell the
+/// unused amount too: all of memory, there being no files.
+fn settings(own_type: u8, memory_length: usize) -> Result<Settings, Number> {
     if !is_own_type(own_type) {
         return Err(WRONG_TYPE);
     }
-    if !is_memory_length(memory.len()) {
+    if !is_memory_length(memory_length) {
         return Err(WRONG_MEMORY);
     }
-    Ok(())
+    let unused = unused(memory_length, &[]).ok_or(WRONG_MEMORY)?;
+    Ok(Settings::fresh(own_type, unused))
 }

@@ -1,14 +1,16 @@
-//! A second implementation of the sign board of document 01 and of requests 1
-//! and 6 of document 02, written from these documents alone, to be compared
+//! A second implementation of the sign board of document 01 and of requests 1,
+//! 3 and 6 of document 02, written from these documents alone, to be compared
 //! case by case with another one.
 //!
 //! Days and months, by themselves: [`dates`], [`renewal`], [`weekday`],
 //! [`days_between`].
 //! The frame layer: [`translation`], [`lead`], [`header`], [`body`], [`sum`],
 //! [`frame`], [`forms`], [`writing`], [`reforming`], [`joining`].
-//! The sign layer: [`settings`], [`record`], [`files`], [`soundness`],
-//! [`configuration`], [`special`], [`commands`], [`reply`], [`run`], [`fresh`].
-//! The comparison: [`stream`], [`cases`], [`source`], [`stored`], [`twelve`].
+//! The sign layer: [`settings`], [`record`], [`files`], [`unused`],
+//! [`soundness`], [`configuration`], [`special`], [`commands`], [`reply`],
+//! [`run`], [`fresh`].
+//! The comparison: [`stream`], [`cases`], [`source`], [`stored`],
+//! [`right_amount`], [`twelve`].
 #![forbid(unsafe_code)]
 
 pub mod body;
@@ -31,6 +33,7 @@ pub mod record;
 pub mod reforming;
 pub mod renewal;
 pub mod reply;
+pub mod right_amount;
 pub mod run;
 pub mod settings;
 pub mod soundness;
@@ -41,5 +44,6 @@ pub mod stream;
 pub mod sum;
 pub mod translation;
 pub mod twelve;
+pub mod unused;
 pub mod weekday;
 pub mod writing;

@@ -1,5 +1,6 @@
 //! "Settings travel as one record, handed in and handed back: time, date, time
-//! format, speaker, serial address, own type, number of files."
+//! format, speaker, serial address, own type, number of files." Request 3: "Keep
+//! the unused amount in the settings record".
 
 use crate::dates::{exists, FIRST_YEAR};
 use crate::hex::{byte_value, frame_digit};
@@ -13,7 +14,7 @@ pub const SPEAKER_ON: u8 = 1;
 const ON_TEXT: [u8; 2] = *b"00";
 const OFF_TEXT: [u8; 2] = *b"FF";
 
-/// How many fields the record has.
+/// How many fields of one byte the record has: all but the unused amount.
 pub const FIELDS: usize = 10;
 
 /// The record, a number to a field, so that a field can be out of range.
@@ -29,12 +30,13 @@ pub struct Settings {
     pub address: u8,
     pub own_type: u8,
     pub files: u8,
+    pub unused: u16,
 }
 
 impl Settings {
     /// "A fresh board has 00:00, 01 01 00, format S, speaker off, address 00,
-    /// no files".
-    pub fn fresh(own_type: u8) -> Settings {
+    /// no files", and so much unused memory.
+    pub fn fresh(own_type: u8, unused: u16) -> Settings {
         Settings {
             hour: 0,
             minute: 0,
@@ -46,10 +48,11 @@ impl Settings {
             address: 0,
             own_type,
             files: 0,
+            unused,
         }
     }
 
-    /// The fields in the record's order.
+    /// The fields of one byte in the record's order.
     pub fn fields(self) -> [u8; FIELDS] {
         [
             self.hour,
@@ -65,8 +68,8 @@ impl Settings {
         ]
     }
 
-    /// The record of these fields.
-    pub fn from_fields(fields: [u8; FIELDS]) -> Settings {
+    /// The record with these fields of one byte.
+    pub fn with_fields(self, fields: [u8; FIELDS]) -> Settings {
         let [hour, minute, month, day, year, format, speaker, address, own_type, files] = fields;
         Settings {
             hour,
@@ -79,6 +82,7 @@ impl Settings {
             address,
             own_type,
             files,
+            ..self
         }
     }
 

@@ -1,11 +1,13 @@
 //! "A board is sound when all this holds and time, date, speaker, format, type
-//! are in range. Any address 00 to FF is in range."
+//! are in range. Any address 00 to FF is in range." Request 3: "1 when the stored
+//! amount is wrong."
 
 use crate::bytes::{LOWEST_DATA, NUL};
 use crate::files::{walk, File, MOST_FILES};
 use crate::header::is_own_type;
 use crate::record::{labels_are_distinct, Record};
 use crate::settings::{is_date, is_format, is_speaker, is_time, Settings};
+use crate::unused::unused;
 
 /// "Memory is 64 to 32,768 bytes."
 pub const LEAST_MEMORY: usize = 64;
@@ -15,7 +17,7 @@ pub const MOST_MEMORY: usize = 32_768;
 pub fn is_sound(settings: Settings, memory: &[u8]) -> bool {
     settings_are_in_range(settings)
         && is_memory_length(memory.len())
-        && files_are_sound(memory, settings.files)
+        && files_are_sound(memory, settings)
 }
 
 /// "Memory is 64 to 32,768 bytes."
@@ -35,15 +37,16 @@ fn settings_are_in_range(settings: Settings) -> bool {
 }
 
 /// "in order without gaps"; "Labels are distinct"; "Memory after the last file
-/// is 00H."
-fn files_are_sound(memory: &[u8], count: u8) -> bool {
-    let Some((files, end)) = walk(memory, count) else {
+/// is 00H."; and the stored amount is what the files leave.
+fn files_are_sound(memory: &[u8], settings: Settings) -> bool {
+    let Some((files, end)) = walk(memory, settings.files) else {
         return false;
     };
     let records: Vec<Record> = files.iter().map(|file| file.record).collect();
     labels_are_distinct(&records)
         && files.iter().all(|file| content_is_sound(memory, file))
         && all_zero(memory.get(end..).unwrap_or_default())
+        && unused(memory.len(), &records) == Some(settings.unused)
 }
 
 /// "Content is zero or more bytes 05H to FFH, then 00H up to SIZE."

@@ -4,8 +4,8 @@ use crate::bytes::{
     COMMA, CONFIGURATION, DATE, POOL, SERIAL_ADDRESS, SPEAKER, TIME, TIME_FORMAT, WRITE_SPECIAL,
 };
 use crate::commands::Board;
-use crate::configuration::configure;
-use crate::files::{records_text, unused};
+use crate::configuration::{configure, Configured};
+use crate::files::records_text;
 use crate::hex::word_digits;
 use crate::numbers::{Number, MALFORMED, UNKNOWN};
 use crate::reply::reply;
@@ -22,10 +22,14 @@ pub fn set(board: &mut Board<'_>, data: &[u8]) -> Result<(), Number> {
         TIME_FORMAT => settings.with_format(rest).ok_or(MALFORMED)?,
         DATE => settings.with_date(rest).ok_or(MALFORMED)?,
         SERIAL_ADDRESS => settings.with_address(rest).ok_or(MALFORMED)?,
-        CONFIGURATION => Settings {
-            files: configure(rest, board.memory)?,
-            ..settings
-        },
+        CONFIGURATION => {
+            let Configured { files, unused } = configure(rest, board.memory)?;
+            Settings {
+                files,
+                unused,
+                ..settings
+            }
+        }
         _ => return Err(UNKNOWN),
     };
     Ok(())
@@ -51,13 +55,12 @@ pub fn get(board: &Board<'_>, data: &[u8]) -> Result<Vec<u8>, Number> {
     Ok(reply(WRITE_SPECIAL, label, &text))
 }
 
-/// ""#" gives POOL,pool, total and unused, four hex digits each."
+/// ""#" gives POOL,pool, total and unused, four hex digits each." Request 3: the
+/// amount is the stored one, so that no poll "adds up all records".
 fn pool_text(board: &Board<'_>) -> Vec<u8> {
-    let total = board.memory.len();
-    let unused = unused(board.memory, board.settings.files);
-    let mut text = size_text(total).to_vec();
+    let mut text = size_text(board.memory.len()).to_vec();
     text.push(COMMA);
-    text.extend(size_text(unused));
+    text.extend(word_digits(board.settings.unused));
     text
 }
 

@@ -38,6 +38,10 @@ pub const CALLS: [u8; 8] = [
 /// The line for a case that cannot be read.
 const BAD_CASE: &[u8] = b"bad case\n";
 
+/// The bytes of a settings string: those of one byte a field, then the unused
+/// amount in two.
+const SETTINGS_LENGTH: usize = FIELDS + 2;
+
 /// One call with its arguments.
 #[derive(Clone, Debug, PartialEq, Eq)]
 pub enum Case {
@@ -223,7 +227,7 @@ impl Case {
                 reply,
                 frame,
             } => {
-                push_string(&mut bytes, &settings.fields());
+                push_string(&mut bytes, &settings_bytes(*settings));
                 push_string(&mut bytes, memory);
                 push_string(&mut bytes, reply);
                 push_string(&mut bytes, frame);
@@ -283,6 +287,27 @@ fn push_string(bytes: &mut Vec<u8>, string: &[u8]) {
     bytes.extend(string.iter().take(usize::from(length)));
 }
 
+/// Settings in a stream: "one byte a field", then "the unused amount, two
+/// bytes". "A number of two bytes has its most significant byte first".
+fn settings_bytes(settings: Settings) -> [u8; SETTINGS_LENGTH] {
+    let mut bytes = [0; SETTINGS_LENGTH];
+    let (fields, unused) = bytes.split_at_mut(FIELDS);
+    fields.copy_from_slice(&settings.fields());
+    unused.copy_from_slice(&settings.unused.to_be_bytes());
+    bytes
+}
+
+/// The settings that [`settings_bytes`] lays out; none where the string is of
+/// another length.
+fn settings_of(string: &[u8]) -> Option<Settings> {
+    let (fields, unused) = string.split_at_checked(FIELDS)?;
+    let settings = Settings {
+        unused: u16::from_be_bytes(unused.try_into().ok()?),
+        ..Settings::default()
+    };
+    Some(settings.with_fields(fields.try_into().ok()?))
+}
+
 /// A date in a stream: the year in two bytes, then month and day. "A number of
 /// two bytes has its most significant byte first".
 fn push_date(bytes: &mut Vec<u8>, date: Date) {
@@ -323,11 +348,11 @@ fn read_arguments(call: u8, input: &mut impl BufRead) -> io::Result<Option<Case>
             memory: read_string(input)?,
         },
         RUN_CALL => {
-            let Ok(fields) = <[u8; FIELDS]>::try_from(read_string(input)?) else {
+            let Some(settings) = settings_of(&read_string(input)?) else {
                 return Ok(None);
             };
             Case::Run {
-                settings: Settings::from_fields(fields),
+                settings,
                 memory: read_string(input)?,
                 reply: read_string(input)?,
                 frame: read_string(input)?,
@@ -466,6 +491,7 @@ impl Line {
         for field in settings.fields() {
             self.number(field);
         }
+        self.number(settings.unused);
     }
 
     fn string(&mut self, string: &[u8]) {

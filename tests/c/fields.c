@@ -1,5 +1,6 @@
-/* Each field of each struct of pagozkin.h, by name, after calls that give every field of a struct another value; dates that exist and
- * dates that do not; renewal dates, weekdays and days between dates; what a read leaves in its room; and each call with empty slices. */
+/* Each field of each struct of pagozkin.h, by name, after calls that give every field of a struct another value; unused amounts that are
+ * right and that are wrong; dates that exist and dates that do not; renewal dates, weekdays and days between dates; what a read leaves
+ * in its room; and each call with empty slices. */
 #include "expect.h"
 
 #include <pagozkin.h>
@@ -28,12 +29,14 @@ static pagozkin_settings board(void)
     pagozkin_made made = pagozkin_fresh('Q', memory, MEMORY);
     IS(made.number, PAGOZKIN_WRONG_TYPE);
     IS(made.settings.month, 0);
+    IS(made.settings.unused, 0);
     made = pagozkin_fresh('C', memory, MEMORY);
     IS(made.number, PAGOZKIN_DONE);
     IS(made.settings.month, 1);
     IS(made.settings.day, 1);
     IS(made.settings.format, 'S');
     IS(made.settings.own, 'C');
+    IS(made.settings.unused, MEMORY);
     return made.settings;
 }
 
@@ -57,6 +60,7 @@ static void runs(void)
     IS(a.settings.address, 0x1F);
     IS(a.settings.own, 'C');
     IS(a.settings.files, 2);
+    IS(a.settings.unused, MEMORY - 2 * (PAGOZKIN_RECORD + 0x10));
     is("a sound board", pagozkin_is_sound(a.settings, memory, MEMORY), 1);
 
     pagozkin_settings late = a.settings;
@@ -67,6 +71,56 @@ static void runs(void)
     IS(a.tally.done, 0);
     IS(a.settings.hour, 24);
     IS(a.settings.minute, 34);
+}
+
+/* Memory's length less, for each file, its record and its SIZE: what settings of version 1 have to be given. */
+static uint16_t unused(uint8_t files)
+{
+    size_t at = 0;
+    for (; files > 0; files--) {
+        size_t size = 0;
+        for (size_t i = 3; i < 7; i++)
+            size = size * 16 + (size_t)(memory[at + i] < 'A' ? memory[at + i] - '0' : memory[at + i] - 'A' + 10);
+        at += PAGOZKIN_RECORD + size;
+    }
+    return (uint16_t)(MEMORY - at);
+}
+
+/* The unused amount: after each run that sum, told by F "#"; and no other amount is sound. */
+static void amounts(void)
+{
+    static const struct {
+        const char *sent;
+        uint16_t left;
+    } each[] = {
+        {"_01Z00_02E$_04", MEMORY},
+        {"_01Z00_02E$AAU0010FF00SBL00080000_04", 466},
+        {"_01Z00_02E$AAU0010FF00_03_02AAHELLO_04", 485},
+        {"_01Z00_02E$AAU01F5FF00SBL00080000_04", 485},
+        {"_01Z00_02E$SBL00080000AAU0000FF00_04", 0},
+    };
+    pagozkin_settings s = board();
+    for (size_t i = 0; i < sizeof each / sizeof each[0]; i++) {
+        s = pagozkin_run(s, memory, MEMORY, reply, sizeof reply, (const uint8_t *)each[i].sent, strlen(each[i].sent)).settings;
+        IS(s.unused, each[i].left);
+        IS(s.unused, unused(s.files));
+        pagozkin_answer a = pagozkin_run(s, memory, MEMORY, reply, sizeof reply, BYTES("_01Z00_02F#_04"));
+        IS(a.tally.done, 1);
+        IS(a.settings.unused, each[i].left);
+        char told[5] = {0};
+        for (size_t k = 0, n = each[i].left; k < 4; k++, n /= 16)
+            told[3 - k] = "0123456789ABCDEF"[n % 16];
+        is("the unused memory that is told", (size_t)memcmp(reply + 32, told, 4), 0);
+        static const int wrong[] = {-1, 1, -PAGOZKIN_RECORD, PAGOZKIN_RECORD};
+        for (size_t k = 0; k < sizeof wrong / sizeof wrong[0]; k++) {
+            pagozkin_settings other = s;
+            other.unused = (uint16_t)(s.unused + wrong[k]);
+            is("a board with a wrong amount", pagozkin_is_sound(other, memory, MEMORY), 0);
+            a = pagozkin_run(other, memory, MEMORY, reply, sizeof reply, BYTES("_01Z00_02F#_04"));
+            IS(a.number, PAGOZKIN_NOT_SOUND);
+            IS(a.settings.unused, other.unused);
+        }
+    }
 }
 
 /* Month, day, year: on a board handed in, and in the command on a fresh board. */
@@ -236,6 +290,7 @@ static void empties(void)
 int main(void)
 {
     runs();
+    amounts();
     dates();
     renewals();
     days();

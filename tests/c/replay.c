@@ -96,7 +96,7 @@ static int read_string(string *s)
 static int read_settings(void)
 {
     const uint8_t *s = bytes(&d);
-    if (!read_string(&d) || d.length != 10)
+    if (!read_string(&d) || d.length != 12)
         return 0;
     settings.hour = s[0];
     settings.minute = s[1];
@@ -108,6 +108,7 @@ static int read_settings(void)
     settings.address = s[7];
     settings.own = s[8];
     settings.files = s[9];
+    settings.unused = (uint16_t)(s[10] * 256 + s[11]);
     return 1;
 }
 
@@ -127,8 +128,8 @@ static void print_string(string *s)
 
 static void print_settings(pagozkin_settings s)
 {
-    printf("%u %u %u %u %u %u %u %u %u %u ", s.hour, s.minute, s.month, s.day, s.year, s.format, s.speaker, s.address, s.own,
-           s.files);
+    printf("%u %u %u %u %u %u %u %u %u %u %u ", s.hour, s.minute, s.month, s.day, s.year, s.format, s.speaker, s.address, s.own,
+           s.files, s.unused);
 }
 
 static void print_written(string *out)

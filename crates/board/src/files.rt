@@ -5,7 +5,7 @@ ghost use mathlib.Core.Path.{_≡_};
 ghost use mathlib.Core.Bool.{true};
 ghost use Prim.Native.Nat.{_+_, _≤_};
 ghost use lib.ListN.{length, drop};
-ghost use Rattle.board.specs.Files.{sizeOf, filesOf, used, isAt, find};
+ghost use Rattle.board.specs.Files.{sizeOf, filesOf, isAt, find};
 ghost use Rattle.board.specs.Soundness.{holdsFiles};
 
 // "T: "A" TEXT, "B" STRING."
@@ -64,18 +64,4 @@ pub fn find(m: &[u8], n: usize, label: u8, kind: u8) -> Found
         left -= 1;
     }
     Found::Nothing
-}
-
-// The bytes that n files take.
-pub fn used(m: &[u8], n: usize) -> usize
-    requires { ⌜ holdsFiles n (now m) ≡ true ⌝ }
-    ensures { λ r. ⌜ r ≡ used (filesOf n (now (m .entry))) ⌝ }
-{
-    let mut at: usize = 0;
-    let mut left = n;
-    while 0 < left {
-        at += file_length(m, at);
-        left -= 1;
-    }
-    at
 }

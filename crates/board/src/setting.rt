@@ -67,11 +67,13 @@ impl Settings {
         next
     }
 
-    pub fn with_files(self, files: u8) -> Settings
-        ensures { λ r. ⌜ r ≡ withFiles self files ⌝ }
+    // All that "$" changes.
+    pub fn with_files(self, files: u8, unused: u16) -> Settings
+        ensures { λ r. ⌜ r ≡ withFiles self files unused ⌝ }
     {
         let mut next = self;
         next.files = files;
+        next.unused = unused;
         next
     }
 }

@@ -29,7 +29,8 @@ ghost use lib.ListN.{length, drop};
 ghost use Rattle.octets.specs.Choice.{if_then_else_, _is_, _≤?_, between, all};
 ghost use Rattle.octets.specs.Bytes.{isNul};
 ghost use Rattle.board.specs.Files.{STRING};
-ghost use Rattle.board.specs.Soundness.{isLabel, isKind, isProtection, isSize, isStartCode, isStopCode, isCodes, isRecord, isContent, isFileAt, holdsFiles, isMemory, soundMemory, sound};
+ghost use Rattle.board.specs.Soundness.{isLabel, isKind, isProtection, isSize, isStartCode, isStopCode, isCodes, isRecord, isContent, isFileAt, isMemory, sound};
+ghost use Rattle.board.specs.Rest.{holdsAllBut, soundAllBut};
 
 // "P: "U" or "L""
 const UNLOCKED: u8 = 0x55;
@@ -186,9 +187,9 @@ fn is_file(m: &[u8], at: usize) -> bool
     is_content(&m[from..to])
 }
 
-// n files in order without gaps; "Memory after the last file is 00H."
-fn holds_files(m: &[u8], n: usize) -> bool
-    ensures { λ r. ⌜ r ≡ holdsFiles n (now (m .entry)) ⌝ }
+// n files in order without gaps; "Memory after the last file is 00H."; and so many bytes are behind them as are told: one walk.
+fn holds_files(m: &[u8], n: usize, rest: usize) -> bool
+    ensures { λ r. ⌜ r ≡ holdsAllBut n rest (now (m .entry)) ⌝ }
 {
     let mut at: usize = 0;
     let mut left = n;
@@ -199,7 +200,8 @@ fn holds_files(m: &[u8], n: usize) -> bool
         at += file_length(m, at);
         left -= 1;
     }
-    all_nul(&m[at..])
+    let behind = m.len() - at;
+    behind == rest && all_nul(&m[at..])
 }
 
 // "Memory is 64 to 32,768 bytes."
@@ -209,9 +211,9 @@ pub fn is_memory(length: usize) -> bool
     LEAST_MEMORY <= length && length <= MOST_MEMORY
 }
 
-// Memory with n files.
-fn sound_memory(m: &[u8], n: u8) -> bool
-    ensures { λ r. ⌜ r ≡ soundMemory n (now (m .entry)) ⌝ }
+// Memory with n files, and so many bytes unused.
+fn sound_memory(m: &[u8], n: u8, rest: u16) -> bool
+    ensures { λ r. ⌜ r ≡ soundAllBut n rest (now (m .entry)) ⌝ }
 {
     if !is_memory(m.len()) {
         return false;
@@ -219,7 +221,7 @@ fn sound_memory(m: &[u8], n: u8) -> bool
     if FILES < n {
         return false;
     }
-    if !holds_files(m, n as usize) {
+    if !holds_files(m, n as usize, rest as usize) {
         return false;
     }
     labels_distinct(m, n as usize, true)
@@ -232,5 +234,5 @@ pub fn sound(s: Settings, m: &[u8]) -> bool
     if !in_range(s) {
         return false;
     }
-    sound_memory(m, s.files)
+    sound_memory(m, s.files, s.unused)
 }

@@ -10,6 +10,7 @@ use Rattle.sheet.specs.Sheet.{bytes, start, inTurn, onFresh}
 use Rattle.sheet.proofs.Computing.{base}
 use Rattle.cases.specs.Numbers.{numberOf, blockNumber, holds, allHold, times, numbersTable}
 use Rattle.cases.specs.Dates.{eachWay, datesTable}
+use Rattle.cases.specs.Unused.{wrongOn, unusedTable}
 use Rattle.cases.specs.Renewals.{AllAnswer, renewalsTable}
 use Rattle.cases.specs.Witnesses.{AllShow, witnesses}
 
@@ -20,6 +21,10 @@ numbers = refl
 pub dates : allHold datesTable ≡ true
 unfolding numberOf blockNumber holds allHold eachWay datesTable bytes start inTurn onFresh base
 dates = refl
+
+pub unused-amounts : allHold unusedTable ≡ true
+unfolding numberOf blockNumber holds allHold wrongOn unusedTable bytes start inTurn onFresh base
+unused-amounts = refl
 
 pub renewals : AllAnswer renewalsTable
 unfolding

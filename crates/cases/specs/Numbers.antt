@@ -6,13 +6,13 @@ use mathlib.Core.List.{List, [], _∷_, _++_}
 use lib.ListN.{replicate}
 use Rattle.octets.specs.Choice.{if_then_else_, _is_, _isn't_, _≤?_}
 use Rattle.octets.specs.Buffer.{zeros}
-use Rattle.board.specs.Settings.{settings}
+use Rattle.board.specs.Settings.{withTime}
 use Rattle.board.specs.declared.Settings.{Settings}
 use Rattle.writing.specs.Writing.{write}
 use Rattle.writing.specs.Reforming.{reform}
 use Rattle.writing.specs.Joining.{join}
 use Rattle.sign.specs.Run.{run}
-use Rattle.sign.specs.Fresh.{fresh}
+use Rattle.sign.specs.Fresh.{freshSettings, fresh}
 use Rattle.sign.specs.declared.Answer.{Answer}
 use Rattle.sheet.specs.Sheet.{bytes, start, inTurn}
 
@@ -58,9 +58,9 @@ unfoldable pub allHold : List Row → Bool
 allHold [] = true
 allHold (r ∷ rs) = holds r && allHold rs
 
--- settings with a time, and all else in range
-abbrev pub at : ℕ → ℕ → Settings
-at h n = settings h n 1 1 0 0x53 0 0 0x43 0
+-- settings of a fresh board of type "C" with so much memory, at a time
+abbrev pub at : ℕ → ℕ → ℕ → Settings
+at k h n = withTime (freshSettings 0x43 k) h n
 
 -- a list again and again
 unfoldable pub times : ℕ → List ℕ → List ℕ
@@ -89,11 +89,11 @@ E'S = bytes "_01Z00_02E'S_04"
 unfoldable pub numbersTable : List Row
 numbersTable =
     -- 1 "board not sound"
-    row 1 (running (at 24 0) (zeros 64) 128 E'S) (running (at 23 0) (zeros 64) 128 E'S)
-    ∷ row 1 (running (at 0 0) (zeros 63) 128 E'S) (running (at 0 0) (zeros 64) 128 E'S)
-    ∷ row 1 (running (at 0 0) (zeros 63 ++ (1 ∷ [])) 128 E'S) (running (at 0 0) (zeros 64) 128 E'S)
+    row 1 (running (at 64 24 0) (zeros 64) 128 E'S) (running (at 64 23 0) (zeros 64) 128 E'S)
+    ∷ row 1 (running (at 63 0 0) (zeros 63) 128 E'S) (running (at 64 0 0) (zeros 64) 128 E'S)
+    ∷ row 1 (running (at 64 0 0) (zeros 63 ++ (1 ∷ [])) 128 E'S) (running (at 64 0 0) (zeros 64) 128 E'S)
     -- 2 "reply buffer shorter than memory plus 64"
-    ∷ row 2 (running (at 0 0) (zeros 64) 127 E'S) (running (at 0 0) (zeros 64) 128 E'S)
+    ∷ row 2 (running (at 64 0 0) (zeros 64) 127 E'S) (running (at 64 0 0) (zeros 64) 128 E'S)
     -- 3 "input empty, over 8,192 bytes standard or 24,576 printable, or over 8,192 translated"
     ∷ row 3 (frames 64 ([] ∷ [])) (frames 64 (E'S ∷ []))
     ∷ row 3 (frames 64 (long 8175 ∷ [])) (frames 64 (long 8174 ∷ []))

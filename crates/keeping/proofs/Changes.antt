@@ -1,4 +1,4 @@
--- The special functions that set keep settings in range, and touch neither own type nor number of files;
+-- The special functions that set keep settings in range, and touch neither own type nor anything that is kept of memory;
 -- one alone sets the address.
 use Prim.Native.Nat.{ℕ}
 use mathlib.Core.Path.{_≡_, refl, sym, _∙_}
@@ -10,82 +10,89 @@ use Rattle.octets.specs.Carried.{isCarried2, carried2}
 use Rattle.octets.specs.Decimal.{isDecimal, decimal2}
 use Rattle.octets.specs.Bytes.{ZERO, F}
 use Rattle.octets.proofs.Tests.{choice, never, split}
-use Rattle.board.specs.Settings.{FORMAT-S, FORMAT-M, OFF, ON, inDate, inRange}
+use Rattle.board.specs.Settings.{FORMAT-S, FORMAT-M, OFF, ON, inDate, inRange, setTo}
+use Rattle.board.specs.Soundness.{keepsTrue}
 use Rattle.board.specs.declared.Settings.{Settings}
 use Rattle.board.proofs.Ranges.{time-ranged, date-ranged, format-ranged, speaker-ranged, address-ranged}
-use Rattle.special.specs.Special.{TIME, SPEAKER, FORMAT, DATE, ADDRESS, setTime, setSpeaker, setFormat, setDate, setAddress, setBy}
-use Rattle.special.specs.declared.Change.{Change}
-use Rattle.special.specs.declared.Change.the-variants.{To, Malformed, Unknown}
+use Rattle.special.specs.Special.{TIME, SPEAKER, FORMAT, DATE, ADDRESS, Change, to, setTime, setSpeaker, setFormat, setDate, setAddress, setBy}
 
--- what a change from s to t keeps; the test says whether it may set the address
-pub record Kept (moves : Bool) (s t : Settings) : Type 0 where
-  pub own : t .own ≡ s .own
-  pub files : t .files ≡ s .files
-  pub address : moves ≡ false → t .address ≡ s .address
-  pub ranged : inRange s ≡ true → inRange t ≡ true
-
--- what a special function keeps, if it makes a change
-abbrev pub KeptBy : Bool → Settings → Change → Type 0
-KeptBy moves s (To t) = Kept moves s t
-KeptBy moves s Malformed = Unit {0}
-KeptBy moves s Unknown = Unit {0}
+-- what a special function keeps of the settings s; the test says whether it may set the address
+pub record Kept (moves : Bool) (s : Settings) (c : Change) : Type 0 where
+  pub own : c .settings .own ≡ s .own
+  pub files : c .settings .files ≡ s .files
+  pub kept : (m : List ℕ) → keepsTrue (c .settings) m ≡ keepsTrue s m
+  pub address : moves ≡ false → c .settings .address ≡ s .address
+  pub ranged : inRange s ≡ true → inRange (c .settings) ≡ true
+  pub refused : (c .number ≡ 0 → ⊥) → c .settings ≡ s
 
 module _ (x : Bool) (s : Settings) (d : List ℕ) where
+  -- a refusal keeps all
+  stays : {n : ℕ} → Kept x s (record { number = n; settings = s })
+  stays =
+      record { own = refl; files = refl; kept = λ m. refl; address = λ n. refl; ranged = λ g. g; refused = λ n. refl }
+
+  -- another time, date, format, speaker or address
+  sets : {h n m d y f v a : ℕ} → (x ≡ false → a ≡ s .address) → (inRange s ≡ true → inRange (setTo s h n m d y f v a) ≡ true) →
+      Kept x s (to (setTo s h n m d y f v a))
+  unfolding keepsTrue
+  sets e r =
+      record { own = refl; files = refl; kept = λ m. refl; address = e; ranged = r; refused = λ n. absurd (n refl) }
+
   -- setting the time
-  pub time-keeps : KeptBy x s (setTime s d)
+  pub time-keeps : Kept x s (setTime s d)
   unfolding setTime
   time-keeps =
-      choice (KeptBy x s) (length d is 4 && (all isDecimal d && (decimal2 d ≤? 23 && decimal2 (drop 2 d) ≤? 59)))
+      choice (Kept x s) (length d is 4 && (all isDecimal d && (decimal2 d ≤? 23 && decimal2 (drop 2 d) ≤? 59)))
       (λ e.
       let a = split (all isDecimal d) (split (length d is 4) e .1) in
       let b = split (decimal2 d ≤? 23) (a .1) in
-      record { own = refl; files = refl; address = λ n. refl; ranged = λ g. time-ranged s g _ _ (b .0) (b .1) })
-      (λ e. tt)
+      sets (λ n. refl) (λ g. time-ranged s g _ _ (b .0) (b .1)))
+      (λ e. stays)
 
   -- setting the date
-  pub date-keeps : KeptBy x s (setDate s d)
+  pub date-keeps : Kept x s (setDate s d)
   unfolding setDate
   date-keeps =
-      choice (KeptBy x s) (length d is 6 && (all isDecimal d && inDate (decimal2 d) (decimal2 (drop 2 d)) (decimal2 (drop 4 d))))
+      choice (Kept x s) (length d is 6 && (all isDecimal d && inDate (decimal2 d) (decimal2 (drop 2 d)) (decimal2 (drop 4 d))))
       (λ e.
       let a = split (all isDecimal d) (split (length d is 6) e .1) .1 in
-      record { own = refl; files = refl; address = λ n. refl; ranged = λ g. date-ranged s g _ _ _ a })
-      (λ e. tt)
+      sets (λ n. refl) (λ g. date-ranged s g _ _ _ a))
+      (λ e. stays)
 
   -- setting the time format
-  pub format-keeps : KeptBy x s (setFormat s d)
+  pub format-keeps : Kept x s (setFormat s d)
   unfolding setFormat
   format-keeps =
-      choice (KeptBy x s) (length d is 1 && (d ! 0 is FORMAT-S || d ! 0 is FORMAT-M))
+      choice (Kept x s) (length d is 1 && (d ! 0 is FORMAT-S || d ! 0 is FORMAT-M))
       (λ e.
       let a = split (length d is 1) e .1 in
-      record { own = refl; files = refl; address = λ n. refl; ranged = λ g. format-ranged s g _ a })
-      (λ e. tt)
+      sets (λ n. refl) (λ g. format-ranged s g _ a))
+      (λ e. stays)
 
   -- setting the speaker
-  pub speaker-keeps : KeptBy x s (setSpeaker s d)
+  pub speaker-keeps : Kept x s (setSpeaker s d)
   unfolding setSpeaker
   speaker-keeps =
-      choice (KeptBy x s) (length d is 2 && (d ! 0 is ZERO && d ! 1 is ZERO))
-      (λ e. record { own = refl; files = refl; address = λ n. refl; ranged = λ g. speaker-ranged s g ON refl })
-      (λ e. choice (KeptBy x s) (length d is 2 && (d ! 0 is F && d ! 1 is F))
-      (λ f. record { own = refl; files = refl; address = λ n. refl; ranged = λ g. speaker-ranged s g OFF refl })
-      (λ f. tt))
+      choice (Kept x s) (length d is 2 && (d ! 0 is ZERO && d ! 1 is ZERO))
+      (λ e. sets (λ n. refl) (λ g. speaker-ranged s g ON refl))
+      (λ e. choice (Kept x s) (length d is 2 && (d ! 0 is F && d ! 1 is F))
+      (λ f. sets (λ n. refl) (λ g. speaker-ranged s g OFF refl))
+      (λ f. stays))
 
   -- setting the address
-  pub address-keeps : x ≡ true → KeptBy x s (setAddress s d)
+  pub address-keeps : x ≡ true → Kept x s (setAddress s d)
   unfolding setAddress
   address-keeps t =
-      choice (KeptBy x s) (length d is 2 && isCarried2 d)
-      (λ e. record { own = refl; files = refl; address = λ n. never (sym t ∙ n); ranged = λ g. address-ranged s g (carried2 d) })
-      (λ e. tt)
+      choice (Kept x s) (length d is 2 && isCarried2 d)
+      (λ e. sets (λ n. never (sym t ∙ n)) (λ g. address-ranged s g (carried2 d)))
+      (λ e. stays)
 
   -- whichever it is, by its label
-  pub set-keeps : (label : ℕ) → ((label is ADDRESS) ≡ true → x ≡ true) → KeptBy x s (setBy s label d)
+  pub set-keeps : (label : ℕ) → ((label is ADDRESS) ≡ true → x ≡ true) → Kept x s (setBy s label d)
   unfolding setBy
   set-keeps label t =
-      choice (KeptBy x s) (label is TIME) (λ e. time-keeps) (λ e.
-      choice (KeptBy x s) (label is SPEAKER) (λ e. speaker-keeps) (λ e.
-      choice (KeptBy x s) (label is FORMAT) (λ e. format-keeps) (λ e.
-      choice (KeptBy x s) (label is DATE) (λ e. date-keeps) (λ e.
-      choice (KeptBy x s) (label is ADDRESS) (λ e. address-keeps (t e)) (λ e. tt)))))
+      choice (Kept x s) (label is TIME) (λ e. time-keeps) (λ e.
+      choice (Kept x s) (label is SPEAKER) (λ e. speaker-keeps) (λ e.
+      choice (Kept x s) (label is FORMAT) (λ e. format-keeps) (λ e.
+      choice (Kept x s) (label is DATE) (λ e. date-keeps) (λ e.
+      choice (Kept x s) (label is ADDRESS) (λ e. address-keeps (t e)) (λ e. stays)))))

@@ -16,24 +16,23 @@ use Rattle.board.specs.declared.Found.{Found}
 use Rattle.board.specs.declared.Found.the-variants.{At, Nothing}
 use Rattle.board.specs.declared.Settings.{Settings}
 use Rattle.board.specs.Settings.{withFiles}
-use Rattle.board.specs.Files.{TEXT, STRING, FILES, File, filesOf, distinct}
+use Rattle.board.specs.Files.{TEXT, STRING, FILES, File, filesOf, unused, distinct}
 use Rattle.board.specs.Soundness.{soundMemory, sound}
 use Rattle.board.proofs.Ranges.{files-ranged}
-use Rattle.board.proofs.SoundParts.{parts, sound-parts, sound-whole}
+use Rattle.board.proofs.SoundParts.{parts, sound-parts, kept-true, sound-whole}
+use Rattle.board.proofs.Inside.{sound-held, sound-unused}
 use Rattle.effects.specs.Effects.{Board, board, Effect, done, replied, refuse}
 use Rattle.commands.specs.Commands.{findOn, holding}
 use Rattle.commands.specs.Commands.{putMessage, writeFile, getContent, readFile}
 use Rattle.records.specs.Records.{isRecords, recordsIn, labelsIn, needed, refusal, laid}
 use Rattle.special.specs.Configuration.{configure}
-use Rattle.special.specs.Special.{CONFIGURATION, setsAddress, setBy, change, writeSpecial, isTold, readSpecial}
+use Rattle.special.specs.Special.{CONFIGURATION, Change, setsAddress, setBy, change, writeSpecial, isTold, readSpecial}
 use Rattle.commands.specs.Blocks.{command, runBlock}
-use Rattle.special.specs.declared.Change.{Change}
-use Rattle.special.specs.declared.Change.the-variants.{To, Malformed, Unknown}
 use Rattle.keeping.specs.Keeping.{fileIn, configures, writes, Effects}
-use Rattle.keeping.proofs.Messages.{content, put-others, holding-files, holding-length, holding-sound}
+use Rattle.keeping.proofs.Messages.{content, put-others, holding-files, holding-length, holding-unused, holding-sound}
 use Rattle.records.proofs.RecordLaws.{laid-length, laid-sound}
 use Rattle.records.proofs.Refusing.{taken}
-use Rattle.keeping.proofs.Changes.{KeptBy, set-keeps}
+use Rattle.keeping.proofs.Changes.{Kept, set-keeps}
 use Rattle.special.proofs.TellLengths.{told-fits}
 use Rattle.effects.proofs.ReplyLengths.{content-fits}
 
@@ -84,8 +83,14 @@ module _ (b : Board) (c : ℕ) where
             long = holding-length label kind n m start size msg e small;
             sound = λ p s.
                 let t = sound-parts (b .settings) m s in
-                sound-whole (b .settings) (holding m start size msg) (t .0)
-                (holding-sound n m (t .1) label kind start size e msg small (all-tail isPlain label msg p));
+                let q = all-tail isPlain label msg p in
+                let u = holding-unused n m (sound-held (b .settings) m s) label kind start size e msg small q in
+                sound-whole (b .settings) (holding m start size msg)
+                (record {
+                  ranged = t .ranged;
+                  filed = holding-sound n m (t .filed) label kind start size e msg small q;
+                  kept = kept-true (b .settings) (holding m start size msg) (sound-unused (b .settings) m s ∙ sym u);
+                });
             address = λ n. refl;
             files = λ n. refl;
             memory = λ n. never (sym w ∙ n);
@@ -120,22 +125,24 @@ module _ (b : Board) (c : ℕ) where
       choice (Effects b c d) (length d isn't 1) (λ e. refuses d 22) (λ e. gets code d (d ! 0) (findOn b (d ! 0) kind) t)
 
   -- ---- E
-  changes : (d : List ℕ) (x : Change) → KeptBy (setsAddress c d) (b .settings) x → Effects b c d (change b x)
-  unfolding change
-  changes d Malformed k = refuses d 22
-  changes d Unknown k = refuses d 21
-  changes d (To t) k =
+  changes : (d : List ℕ) (x : Change) → Kept (setsAddress c d) (b .settings) x → Effects b c d (change b x)
+  changes d x k =
       record {
         own = k .own;
         long = refl;
         sound = λ p s.
             let q = sound-parts (b .settings) (b .memory) s in
-            sound-whole t (b .memory) (k .ranged (q .0)) (ap (λ (n : ℕ). soundMemory n (b .memory)) (k .files) ∙ q .1);
+            sound-whole (x .settings) (b .memory)
+            (record {
+              ranged = k .ranged (q .ranged);
+              filed = ap (λ (n : ℕ). soundMemory n (b .memory)) (k .files) ∙ q .filed;
+              kept = k .kept (b .memory) ∙ q .kept;
+            });
         address = k .address;
         files = λ n. k .files;
         memory = λ n. refl;
         others = λ x p s i o. ap (λ (n : ℕ). fileIn (filesOf n (b .memory)) i) (k .files);
-        refused = λ n. absurd (n refl);
+        refused = λ n. (ap (λ (t : Settings). board t (b .memory)) (k .refused n), refl);
         quiet = λ n. refl;
         fits = omega arith;
       }
@@ -156,16 +163,23 @@ module _ (b : Board) (c : ℕ) where
       m : List ℕ
       m = b .memory
 
-      fit : isRecords FILES d ≡ true → distinct (labelsIn n d) ≡ true → needed n d ≤ length m →
-          P (done (board (withFiles (b .settings) n) (laid n (length m) d)))
+      -- the settings after it
+      next : Settings
+      next = withFiles (b .settings) n (unused n (laid n (length m) d))
+
+      fit : isRecords FILES d ≡ true → distinct (labelsIn n d) ≡ true → needed n d ≤ length m → P (done (board next (laid n (length m) d)))
       fit e f g =
           record {
             own = refl;
             long = laid-length d e (length m) g;
             sound = λ p s.
                 let q = sound-parts (b .settings) m s in
-                sound-whole (withFiles (b .settings) n) (laid n (length m) d) (files-ranged (b .settings) (q .0) n)
-                (laid-sound d e (length m) g (parts (b .settings .files) m (q .1) .long) f);
+                sound-whole next (laid n (length m) d)
+                (record {
+                  ranged = files-ranged (b .settings) (q .ranged) n (unused n (laid n (length m) d));
+                  filed = laid-sound d e (length m) g (parts (b .settings .files) m (q .filed) .long) f;
+                  kept = kept-true next (laid n (length m) d) refl;
+                });
             address = λ n. refl;
             files = λ n. never (sym w ∙ n);
             memory = λ n. never (sym (rw w) ∙ n);

@@ -12,7 +12,7 @@ use Rattle.octets.specs.Buffer.{zeros}
 use Rattle.octets.proofs.Tests.{by-test, never, split}
 use Rattle.octets.proofs.Digits.{isHex4-inHex4, hex4-inHex4}
 use Rattle.octets.proofs.Buffers.{eleven, length-zeros}
-use Rattle.board.specs.Files.{STRING, FILES, File, sizeOf, filesOf, labels, distinct}
+use Rattle.board.specs.Files.{STRING, FILES, File, sizeOf, filesOf, used, unused, labels, distinct}
 use Rattle.board.specs.Soundness.{isLabel, isKind, isProtection, isSize, isStartCode, isStopCode, isCodes, isRecord}
 use Rattle.board.specs.Soundness.{holdsFiles, isMemory, soundMemory}
 use Rattle.board.proofs.Layouts.{layout, AllValid, parse, holds}
@@ -164,7 +164,7 @@ newOf zero room d = []
 newOf (suc n) room d =
     record { head = stored (sizeIn room d) d; body = zeros (sizeIn room d) } ∷ newOf n (room - (11 + sizeIn room d)) (drop 11 d)
 
-unfoldable roomAfter : ℕ → ℕ → List ℕ → ℕ
+unfoldable pub roomAfter : ℕ → ℕ → List ℕ → ℕ
 roomAfter zero room d = room
 roomAfter (suc n) room d = roomAfter n (room - (11 + sizeIn room d)) (drop 11 d)
 
@@ -211,6 +211,26 @@ new-length (suc n) room d r h =
     rw (length-append, length-append, stored-length d (r .0) v, length-zeros, i)
     (omega (arith, g .inside))
 
+new-used : (n room : ℕ) (d : List ℕ) → Records n d → needed n d ≤ room → used (newOf n room d) + roomAfter n room d ≡ room
+unfolding newOf used roomAfter
+new-used zero room d r h = omega arith
+new-used (suc n) room d r h =
+    let g = gets n room d r h in
+    let v = sizeIn room d in
+    rw length-zeros (omega (arith, g .inside, new-used n (room - (11 + v)) (drop 11 d) (r .2) (g .more)))
+
+-- the files that are found in the new memory
+new-files : (n room : ℕ) (d : List ℕ) → Records n d → needed n d ≤ room → room ≤ 32768 → filesOf n (laid n room d) ≡ newOf n room d
+new-files n room d r h l =
+    ap (filesOf n) (laid-layout n room d)
+    ∙ ap (λ (k : ℕ). filesOf k (layout (newOf n room d) (zeros (roomAfter n room d)))) (new-count n room d)
+    ∙ parse (newOf n room d) (zeros (roomAfter n room d)) (new-valid n room d r h l)
+
+-- what they leave is what no file takes
+pub room-unused : (n room : ℕ) (d : List ℕ) → Records n d → needed n d ≤ room → room ≤ 32768 → roomAfter n room d ≡ unused n (laid n room d)
+unfolding unused
+room-unused n room d r h l = rw (new-files n room d r h l, new-length n room d r h) (omega (arith, new-used n room d r h))
+
 -- ---- the theorems, from what `configure` tests
 
 module _ (d : List ℕ) (ok : isRecords FILES d ≡ true) (room : ℕ) (h : needed (recordsIn d) d ≤ room) where
@@ -231,8 +251,11 @@ module _ (d : List ℕ) (ok : isRecords FILES d ≡ true) (room : ℕ) (h : need
     abbrev rest : List ℕ
     rest = zeros (roomAfter n room d)
 
+    short : room ≤ 32768
+    short = leb-true room 32768 (split (64 ≤? room) l .1)
+
     files-valid : AllValid files
-    files-valid = new-valid n room d listed h (leb-true room 32768 (split (64 ≤? room) l .1))
+    files-valid = new-valid n room d listed h short
 
     -- the new memory holds as many files as there are records, as it has to
     pub laid-holds : holdsFiles (recordsIn d) (laid (recordsIn d) room d) ≡ true
@@ -242,9 +265,7 @@ module _ (d : List ℕ) (ok : isRecords FILES d ≡ true) (room : ℕ) (h : need
 
     -- their labels are the records'
     pub laid-labels : labels (filesOf (recordsIn d) (laid (recordsIn d) room d)) ≡ labelsIn (recordsIn d) d
-    laid-labels =
-        let p = ap (λ (k : ℕ). filesOf k (layout files rest)) (new-count n room d) ∙ parse files rest files-valid in
-        ap labels (ap (filesOf n) (laid-layout n room d) ∙ p) ∙ new-labels n room d listed
+    laid-labels = ap labels (new-files n room d listed h short) ∙ new-labels n room d listed
 
     -- so the new memory is sound where the labels are distinct
     pub laid-sound : distinct (labelsIn (recordsIn d) d) ≡ true → soundMemory (recordsIn d) (laid (recordsIn d) room d) ≡ true

@@ -16,8 +16,8 @@ ghost use mathlib.Core.Bool.{true};
 ghost use Prim.Native.Nat.{_+_, _*_, _≤_};
 ghost use lib.ListN.{length, drop};
 ghost use Rattle.octets.specs.Buffer.{splice};
-ghost use Rattle.records.specs.Records.{isRecords, needed, neededBy, refusal, sizeIn, stored, laid};
-ghost use Rattle.records.specs.Filing.{startsRecord, emptyFile, Spot, Listed};
+ghost use Rattle.records.specs.Records.{isRecords, needed, neededBy, refusal, sizeIn, stored};
+ghost use Rattle.records.specs.Filing.{startsRecord, emptyFile, Spot, Listed, Laid};
 
 // Whether a record of the list stands at a place; "SIZE 0000 is allowed only in a last TEXT record".
 fn starts_record(d: &[u8], at: usize) -> bool
@@ -102,10 +102,18 @@ fn lay_file(m: &mut [u8], place: usize, size: usize, head: &[u8])
     zero_at(m, place + RECORD, size);
 }
 
-// n files with empty contents; "Unused memory stays unused."
-pub fn lay(m: &mut [u8], d: &[u8], n: usize)
+// The room behind the last file, as the settings keep it: it is no more than memory.
+fn amount(rest: usize) -> u16
+    requires { ⌜ rest ≤ 32768 ⌝ }
+    ensures { λ r. ⌜ r ≡ rest ⌝ }
+{
+    rest as u16
+}
+
+// n files with empty contents; "Unused memory stays unused.", and how much it is, is answered.
+pub fn lay(m: &mut [u8], d: &[u8], n: usize) -> u16
     requires { ⌜ Listed (now m) (now d) n ⌝ }
-    ensures { λ r. ⌜ now (m .exit) ≡ laid n (length (now (m .entry))) (now (d .entry)) ⌝ }
+    ensures { λ r. ⌜ Laid (now (m .entry)) (now (d .entry)) n (now (m .exit)) r ⌝ }
 {
     let mut place: usize = 0;
     let mut at: usize = 0;
@@ -120,6 +128,7 @@ pub fn lay(m: &mut [u8], d: &[u8], n: usize)
     }
     let rest = m.len() - place;
     zero_at(m, place, rest);
+    amount(rest)
 }
 
 // Why a list is refused in so much room: 25, 26, 27, or 0 where it is not.

@@ -40,6 +40,10 @@ fn wide(x: u8) -> usize
     x as usize
 }
 
+fn two(high: u8, low: u8) -> u16 {
+    high as u16 * 256 + low as u16
+}
+
 // The length of a string, or 65,536 where the input ends.
 fn read_length() -> usize
     ensures { λ r. ⌜ r ≤ 65536 ⌝ }
@@ -205,6 +209,7 @@ fn print_settings(s: Settings) {
     number(s.address as u64);
     number(s.own as u64);
     number(s.files as u64);
+    number(s.unused as u64);
 }
 
 fn print_tally(t: Tally) {
@@ -223,8 +228,11 @@ fn print_answer(r: Answer) {
     print_settings(next);
 }
 
+// The settings string: a byte for each of the ten settings, two for the unused amount.
+const SETTINGS: usize = 12;
+
 fn settings(set: &[u8]) -> Settings
-    requires { ⌜ 10 ≤ length (now set) ⌝ }
+    requires { ⌜ 12 ≤ length (now set) ⌝ }
 {
     Settings {
         hour: set[0],
@@ -237,13 +245,14 @@ fn settings(set: &[u8]) -> Settings
         address: set[7],
         own: set[8],
         files: set[9],
+        unused: two(set[10], set[11]),
     }
 }
 
 // Short, so that the search that proves it reaches each fact: what a call has to print is printed
 // by functions of their own.
 fn call_r(set: &[u8], memory: &mut [u8], reply: &mut [u8], frame: &[u8]) -> bool {
-    if set.len() != 10 {
+    if set.len() != SETTINGS {
         return bad();
     }
     let r = sign::run::run(settings(set), &mut *memory, &mut *reply, frame);
@@ -256,7 +265,7 @@ fn call_r(set: &[u8], memory: &mut [u8], reply: &mut [u8], frame: &[u8]) -> bool
 }
 
 fn case_r(memory: &mut [u8], reply: &mut [u8], frame: &mut [u8]) -> bool {
-    let mut set = [0u8; 11];
+    let mut set = [0u8; SETTINGS + 1];
     let s = read_string(&mut set);
     let m = read_string(&mut *memory);
     let r = read_string(&mut *reply);
@@ -343,10 +352,6 @@ fn case_j(first: &mut [u8], second: &mut [u8], out: &mut [u8]) -> bool {
     let j = s.count;
     let k = o.count;
     call_j(form, &first[..i], &second[..j], &mut out[..k])
-}
-
-fn two(high: u8, low: u8) -> u16 {
-    high as u16 * 256 + low as u16
 }
 
 fn date(high: u8, low: u8, month: u8, day: u8) -> Date {

@@ -2,12 +2,12 @@
 use Rattle.dates.specs.Calendar.{february, monthLength, isDate}
 use Rattle.board.specs.Settings.{inRange}
 use Rattle.board.specs.Files.{sizeOf, filesOf, heads, used, unused, labels, distinct, isAt, find}
-use Rattle.board.specs.Soundness.{isLabel, isKind, isProtection, isSize, isStartCode, isStopCode, isCodes, isRecord, isContent, isFileAt, holdsFiles, soundMemory, sound}
+use Rattle.board.specs.Soundness.{isLabel, isKind, isProtection, isSize, isStartCode, isStopCode, isCodes, isRecord, isContent, isFileAt, holdsFiles, soundMemory, keepsTrue, sound}
 use Rattle.effects.specs.Reply.{replyOf}
 use Rattle.commands.specs.Commands.{holding, putMessage, writeFile, getContent, readFile}
 use Rattle.records.specs.Records.{isRecords, labelsIn, neededBy, needed, refusal, sizeIn, stored, laid}
 use Rattle.special.specs.Configuration.{configure}
-use Rattle.special.specs.Special.{setTime, setSpeaker, setFormat, setDate, setAddress, setBy, change, writeSpecial, tellTime, tellDate, tellSpeaker, tellPool, isTold, tell, readSpecial}
+use Rattle.special.specs.Special.{setTime, setSpeaker, setFormat, setDate, setAddress, setBy, writeSpecial, tellTime, tellDate, tellSpeaker, tellPool, isTold, tell, readSpecial}
 use Rattle.commands.specs.Blocks.{command, runBlock}
 use Rattle.sign.specs.Run.{count, measure, onto, runBlocks, runFrame, run}
 use Rattle.sign.specs.Fresh.{fresh}
@@ -21,11 +21,11 @@ unfolding
     february monthLength isDate
     inRange
     sizeOf filesOf heads used unused labels distinct isAt find
-    isLabel isKind isProtection isSize isStartCode isStopCode isCodes isRecord isContent isFileAt holdsFiles soundMemory sound
+    isLabel isKind isProtection isSize isStartCode isStopCode isCodes isRecord isContent isFileAt holdsFiles soundMemory keepsTrue sound
     replyOf
     holding putMessage writeFile getContent readFile
     isRecords labelsIn neededBy needed refusal sizeIn stored laid configure
-    setTime setSpeaker setFormat setDate setAddress setBy change writeSpecial tellTime tellDate tellSpeaker tellPool isTold tell readSpecial
+    setTime setSpeaker setFormat setDate setAddress setBy writeSpecial tellTime tellDate tellSpeaker tellPool isTold tell readSpecial
     command runBlock
     count measure onto runBlocks runFrame run
     fresh

@@ -8,7 +8,7 @@ use lib.ListN.{length}
 use borrow.Author.Tests.{ltb-false, not-false, not-true}
 use Rattle.octets.specs.Choice.{_is_, _<?_}
 use Rattle.octets.specs.Buffer.{zeros, overlay}
-use Rattle.octets.proofs.Tests.{choice, split}
+use Rattle.octets.proofs.Tests.{by-test, choice, split}
 use Rattle.octets.proofs.Buffers.{length-zeros}
 use Rattle.buffers.proofs.Splices.{overlay-none, length-overlay}
 use Rattle.header.specs.Addressing.{isOwnType, addressed}
@@ -16,20 +16,21 @@ use Rattle.body.specs.Body.{Block, isRead}
 use Rattle.body.proofs.Plain.{Plain}
 use Rattle.reading.specs.Reading.{Reading, refused, frame, read}
 use Rattle.reading.proofs.FrameLaws.{read-plain}
-use Rattle.board.specs.Settings.{FORMAT-S, OFF, settings, inRange}
-use Rattle.board.specs.Files.{filesOf, labels, distinct}
+use Rattle.board.specs.Settings.{inRange}
+use Rattle.board.specs.Files.{filesOf, used, unused, labels, distinct}
 use Rattle.board.specs.Soundness.{holdsFiles, isMemory, sound}
 use Rattle.board.specs.declared.Settings.{Settings}
 use Rattle.board.proofs.Ranges.{first-date}
 use Rattle.board.proofs.Contents.{zeros-nul}
-use Rattle.board.proofs.SoundParts.{whole, sound-whole}
+use Rattle.board.proofs.Inside.{sound-unused}
+use Rattle.board.proofs.SoundParts.{whole, kept-true, sound-whole}
 use Rattle.effects.specs.Effects.{board}
 use Rattle.commands.specs.Blocks.{runBlock}
 use Rattle.special.specs.Special.{setsAddress}
 use Rattle.keeping.specs.Keeping.{Sound}
 use Rattle.keeping.proofs.Keeping.{block-effects}
 use Rattle.sign.specs.Run.{nothing, count, measure, State, state, onto, runBlocks, Outcome, untouched, runFrame, run}
-use Rattle.sign.specs.Fresh.{Making, fresh}
+use Rattle.sign.specs.Fresh.{Making, freshSettings, fresh}
 use Rattle.sign.specs.Packing.{setsNoAddress}
 use Rattle.sign.specs.declared.Tally.{Tally}
 
@@ -145,10 +146,42 @@ SoundIfMade x = x .answer .number ≡ 0 → sound (x .answer .settings) (x .memo
 -- a fresh board that was made is sound
 pub fresh-sound : (t : ℕ) (m : List ℕ) → fresh t m .answer .number ≡ 0 →
     sound (fresh t m .answer .settings) (fresh t m .memory) ≡ true
-unfolding fresh inRange holdsFiles labels filesOf distinct
+unfolding fresh inRange holdsFiles labels filesOf distinct used unused
 fresh-sound t m =
     choice SoundIfMade (not (isOwnType t)) (λ e z. absurd (omega arith)) (λ e.
     choice SoundIfMade (not (isMemory (length m))) (λ g z. absurd (omega arith)) (λ g z.
-    sound-whole (settings 0 0 1 1 0 FORMAT-S OFF 0 t 0) (zeros (length m)) (rw first-date (not-false (isOwnType t) e))
-    (whole 0 (zeros (length m))
-    (record { long = rw length-zeros (not-false (isMemory (length m)) g); few = refl; held = zeros-nul (length m); apart = refl }))))
+    let s = freshSettings t (length m) in
+    let l = length-zeros (length m) in
+    sound-whole s (zeros (length m))
+    (record {
+      ranged = rw first-date (not-false (isOwnType t) e);
+      filed =
+          whole 0 (zeros (length m))
+          (record { long = rw l (not-false (isMemory (length m)) g); few = refl; held = zeros-nul (length m); apart = refl });
+      kept = kept-true s (zeros (length m)) (omega (arith, l));
+    })))
+
+-- ---- the unused amount
+
+-- 1 "board not sound"
+not-sound : (s : Settings) (m o f : List ℕ) → sound s m ≡ false → run s m o f ≡ untouched 1 s m o
+unfolding run
+not-sound s m o f e = rw e
+
+-- request 3, "It always equals the memory length less, for each file, its record and its counted size.": after any run that is not
+-- refused because its board is not sound
+pub run-unused : (s : Settings) (m o f : List ℕ) → (run s m o f .answer .number ≡ 1 → ⊥) →
+    run s m o f .answer .settings .unused ≡ unused (run s m o f .answer .settings .files) (run s m o f .memory)
+run-unused s m o f n =
+    by-test (sound s m)
+    (λ e. sound-unused (run s m o f .answer .settings) (run s m o f .memory) (run-sound s m o f e))
+    (λ e. absurd (n (ap (λ (x : Outcome). x .answer .number) (not-sound s m o f e))))
+
+-- and after any fresh board that was made
+pub fresh-unused : (t : ℕ) (m : List ℕ) → fresh t m .answer .number ≡ 0 →
+    fresh t m .answer .settings .unused ≡ unused (fresh t m .answer .settings .files) (fresh t m .memory)
+fresh-unused t m e = sound-unused (fresh t m .answer .settings) (fresh t m .memory) (fresh-sound t m e)
+
+-- "1 when the stored amount is wrong": whatever else the board is, and whatever the frame
+pub run-wrong : (s : Settings) (m o f : List ℕ) → (s .unused ≡ unused (s .files) m → ⊥) → run s m o f ≡ untouched 1 s m o
+run-wrong s m o f n = by-test (sound s m) (λ e. absurd (n (sound-unused s m e))) (λ e. not-sound s m o f e)

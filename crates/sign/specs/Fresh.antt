@@ -28,14 +28,22 @@ madeAs n s = record { number = n; settings = s }
 abbrev pub makes : ℕ → Settings → List ℕ → Making
 makes n s m = making (madeAs n s) m
 
--- "memory untouched", "settings from 10 or 11 all zero"
-abbrev pub unmade : ℕ → List ℕ → Making
-unmade n m = makes n (settings 0 0 0 0 0 0 0 0 0 0) m
+-- "settings from 10 or 11 all zero"
+abbrev pub allZero : Settings
+allZero = settings 0 0 0 0 0 0 0 0 0 0 0
 
--- "A fresh board has 00:00, 01 01 00, format S, speaker off, address 00, no files, memory all zero."
--- "Fresh: 10, 11": 10 "wrong type", 11 "wrong memory length"
+-- "memory untouched"
+abbrev pub unmade : ℕ → List ℕ → Making
+unmade n m = makes n allZero m
+
+-- "A fresh board has 00:00, 01 01 00, format S, speaker off, address 00, no files", and its own type; request 3: all of its memory,
+-- so many bytes, is unused
+abbrev pub freshSettings : ℕ → ℕ → Settings
+freshSettings t n = settings 0 0 1 1 0 FORMAT-S OFF 0 t 0 n
+
+-- a fresh board: "memory all zero"; "Fresh: 10, 11": 10 "wrong type", 11 "wrong memory length"
 unfoldable pub fresh : ℕ → List ℕ → Making
 fresh t m =
     if not (isOwnType t) then unmade 10 m
     else if not (isMemory (length m)) then unmade 11 m
-    else makes 0 (settings 0 0 1 1 0 FORMAT-S OFF 0 t 0) (zeros (length m))
+    else makes 0 (freshSettings t (length m)) (zeros (length m))

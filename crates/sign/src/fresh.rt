@@ -9,12 +9,11 @@ use board::soundness::is_memory;
 use buffers::copying::zero_at;
 use frame::is_own_type;
 ghost use mathlib.Core.Path.{_≡_};
-ghost use Rattle.board.specs.Settings.{FORMAT-S, OFF, settings};
-ghost use Rattle.sign.specs.Fresh.{making, fresh, madeAs};
+ghost use Rattle.sign.specs.Fresh.{making, allZero, freshSettings, fresh, madeAs};
 
 // "settings from 10 or 11 all zero"
 fn unmade(number: u8) -> Made
-    ensures { λ r. ⌜ r ≡ madeAs number (settings 0 0 0 0 0 0 0 0 0 0) ⌝ }
+    ensures { λ r. ⌜ r ≡ madeAs number allZero ⌝ }
 {
     Made {
         number,
@@ -29,13 +28,14 @@ fn unmade(number: u8) -> Made
             address: 0,
             own: 0,
             files: 0,
+            unused: 0,
         },
     }
 }
 
-// "00:00, 01 01 00, format S, speaker off, address 00, no files"
-fn made(own: u8) -> Made
-    ensures { λ r. ⌜ r ≡ madeAs 0 (settings 0 0 1 1 0 FORMAT-S OFF 0 own 0) ⌝ }
+// "00:00, 01 01 00, format S, speaker off, address 00, no files"; request 3: all of memory is unused.
+fn made(own: u8, unused: u16) -> Made
+    ensures { λ r. ⌜ r ≡ madeAs 0 (freshSettings own unused) ⌝ }
 {
     Made {
         number: 0,
@@ -50,6 +50,7 @@ fn made(own: u8) -> Made
             address: 0,
             own,
             files: 0,
+            unused,
         },
     }
 }
@@ -66,5 +67,5 @@ pub fn fresh(own: u8, m: &mut [u8]) -> Made
         return unmade(WRONG_MEMORY);
     }
     zero_at(m, 0, n);
-    made(own)
+    made(own, n as u16)
 }

@@ -1,6 +1,6 @@
 -- What the special functions that set make of data, test by test: another setting, or that the data are malformed.
 use Prim.Native.Nat.{ℕ, _-_}
-use mathlib.Core.Path.{_≡_, refl, sym, _∙_}
+use mathlib.Core.Path.{_≡_, refl, sym, ap, _∙_}
 use mathlib.Core.List.{List, [], _∷_}
 use mathlib.Core.Bool.{Bool, true, false, not, _&&_, _||_}
 use native.Mathlib.Omega.{arith}
@@ -14,20 +14,23 @@ use Rattle.octets.specs.Decimal.{isDecimal, decimal2}
 use Rattle.octets.specs.Digits.{two}
 use Rattle.octets.specs.declared.hex.Two.{Two}
 use Rattle.octets.specs.declared.hex.Two.the-variants.{Value, Bad}
-use Rattle.octets.proofs.Tests.{and-none}
+use Rattle.octets.proofs.Tests.{and-none, and-some}
 use Rattle.octets.proofs.Told.{two-none, two-some}
 use Rattle.board.specs.Settings.{FORMAT-S, FORMAT-M, OFF, ON, inDate, withTime, withDate, withFormat, withSpeaker, withAddress}
 use Rattle.board.specs.declared.Settings.{Settings}
 use Rattle.effects.specs.Effects.{board}
 use Rattle.special.specs.Configuration.{configure}
 use Rattle.special.specs.Special.{TIME, SPEAKER, CONFIGURATION, FORMAT, ADDRESS, DATE}
-use Rattle.special.specs.Special.{setTime, setSpeaker, setFormat, setDate, setAddress, setBy, change, writeSpecial}
+use Rattle.special.specs.Special.{Change, to, malformed, unknown, setTime, setSpeaker, setFormat, setDate, setAddress, setBy, change, writeSpecial}
 use Rattle.effects.specs.Leaving.{doneAs, Acts}
 use Rattle.special.specs.Changing.{changed}
-use Rattle.special.specs.declared.Change.{Change}
-use Rattle.special.specs.declared.Change.the-variants.{To, Malformed, Unknown}
 use Rattle.effects.specs.declared.Done.{Done}
-use Rattle.effects.proofs.Outcomes.{acts-refused, acts-done}
+use Rattle.effects.proofs.Outcomes.{acts-refused}
+
+-- the answer to what was made of the settings
+pub answered : (n : ℕ) (t : Settings) (x : Change) (r : Done) → r ≡ doneAs n t 0 → record { number = n; settings = t } ≡ x → r ≡ changed x
+unfolding changed
+answered n t x r e h = e ∙ ap changed h
 
 -- data that are digits alone: b is the code's answer
 pub digits-alone : (d : List ℕ) (b : Bool) → b ≡ all isDecimal d → not b ≡ false → all isDecimal d ≡ true
@@ -36,69 +39,65 @@ digits-alone d b e h = sym e ∙ not-false b h
 -- ---- the time
 
 module _ (s : Settings) (d : List ℕ) where
-  pub time-length : (length d ≡ 4 → ⊥) → Malformed ≡ setTime s d
+  pub time-length : (length d ≡ 4 → ⊥) → malformed s ≡ setTime s d
   unfolding setTime
   time-length n = rw (ne-eqb (length d) 4 n)
 
   module _ (l : length d ≡ 4) (b : Bool) (e : b ≡ all isDecimal d) where
-    pub time-letters : not b ≡ true → Malformed ≡ setTime s d
+    pub time-letters : not b ≡ true → malformed s ≡ setTime s d
     unfolding setTime
     time-letters h = rw (eq-eqb (length d) 4 l, ← e, not-true b h)
 
     module _ (h : not b ≡ false) (x y : ℕ) (p : x ≡ decimal2 d) (q : y ≡ decimal2 (drop 2 d)) (t : Bool) (f : t ≡ (x ≤? 23 && y ≤? 59)) where
-      pub time-late : not t ≡ true → Malformed ≡ setTime s d
+      pub time-late : not t ≡ true → malformed s ≡ setTime s d
       unfolding setTime
       time-late n = rw (eq-eqb (length d) 4 l, ← e, not-false b h, ← p, ← q, ← f, not-true t n)
 
-      pub time-right : not t ≡ false → (r : Settings) → r ≡ withTime s x y → To r ≡ setTime s d
+      pub time-right : not t ≡ false → (r : Settings) → r ≡ withTime s x y → to r ≡ setTime s d
       unfolding setTime
       time-right n r g = rw (eq-eqb (length d) 4 l, ← e, not-false b h, ← p, ← q, ← f, not-false t n, g)
 
-pub ruleset timing = (digits-alone, time-length, time-letters, time-late, time-right, needs)
+pub ruleset timing = (answered, digits-alone, time-length, time-letters, time-late, time-right, needs)
 
 -- ---- the date
 
 module _ (s : Settings) (d : List ℕ) where
-  pub date-length : (length d ≡ 6 → ⊥) → Malformed ≡ setDate s d
+  pub date-length : (length d ≡ 6 → ⊥) → malformed s ≡ setDate s d
   unfolding setDate
   date-length n = rw (ne-eqb (length d) 6 n)
 
   module _ (l : length d ≡ 6) (b : Bool) (e : b ≡ all isDecimal d) where
-    pub date-letters : not b ≡ true → Malformed ≡ setDate s d
+    pub date-letters : not b ≡ true → malformed s ≡ setDate s d
     unfolding setDate
     date-letters h = rw (eq-eqb (length d) 6 l, ← e, not-true b h)
 
     module _ (h : not b ≡ false) (x y z : ℕ) (p : x ≡ decimal2 d) (q : y ≡ decimal2 (drop 2 d)) (w : z ≡ decimal2 (drop 4 d))
         (t : Bool) (f : t ≡ inDate x y z) where
-      pub date-none : not t ≡ true → Malformed ≡ setDate s d
+      pub date-none : not t ≡ true → malformed s ≡ setDate s d
       unfolding setDate
       date-none n = rw (eq-eqb (length d) 6 l, ← e, not-false b h, ← p, ← q, ← w, ← f, not-true t n)
 
-      pub date-right : not t ≡ false → (r : Settings) → r ≡ withDate s x y z → To r ≡ setDate s d
+      pub date-right : not t ≡ false → (r : Settings) → r ≡ withDate s x y z → to r ≡ setDate s d
       unfolding setDate
       date-right n r g = rw (eq-eqb (length d) 6 l, ← e, not-false b h, ← p, ← q, ← w, ← f, not-false t n, g)
 
-pub ruleset dating = (digits-alone, date-length, date-letters, date-none, date-right, needs)
+pub ruleset dating = (answered, digits-alone, date-length, date-letters, date-none, date-right, needs)
 
 -- ---- the speaker
-
-and-yes : (a : Bool) → (a && true) ≡ a
-and-yes true = refl
-and-yes false = refl
 
 -- data that are two bytes
 same-two : (d : List ℕ) (x y : ℕ) → same d (x ∷ y ∷ []) ≡ (length d is 2 && (d ! 0 is x && d ! 1 is y))
 unfolding same
 same-two [] x y = refl
 same-two (a ∷ []) x y = and-none (a is x) refl
-same-two (a ∷ b ∷ []) x y = rw (and-yes (b is y))
+same-two (a ∷ b ∷ []) x y = rw (and-some (b is y) refl)
 same-two (a ∷ b ∷ c ∷ d) x y = rw (and-none (b is y) refl, and-none (a is x) refl, ne-eqb (length (a ∷ b ∷ c ∷ d)) 2 (λ e. omega arith))
 
 module _ (s : Settings) (d : List ℕ) (b : Bool) (e : b ≡ same d (ZERO ∷ ZERO ∷ [])) where
   on-test : (length d is 2 && (d ! 0 is ZERO && d ! 1 is ZERO)) ≡ b
   on-test = sym (e ∙ same-two d ZERO ZERO)
 
-  pub speaker-on : b ≡ true → (r : Settings) → r ≡ withSpeaker s ON → To r ≡ setSpeaker s d
+  pub speaker-on : b ≡ true → (r : Settings) → r ≡ withSpeaker s ON → to r ≡ setSpeaker s d
   unfolding setSpeaker
   speaker-on h r g = rw (on-test, h, g)
 
@@ -106,70 +105,64 @@ module _ (s : Settings) (d : List ℕ) (b : Bool) (e : b ≡ same d (ZERO ∷ ZE
     off-test : (length d is 2 && (d ! 0 is F && d ! 1 is F)) ≡ t
     off-test = sym (f ∙ same-two d F F)
 
-    pub speaker-off : t ≡ true → (r : Settings) → r ≡ withSpeaker s OFF → To r ≡ setSpeaker s d
+    pub speaker-off : t ≡ true → (r : Settings) → r ≡ withSpeaker s OFF → to r ≡ setSpeaker s d
     unfolding setSpeaker
     speaker-off k r g = rw (on-test, h, off-test, k, g)
 
-    pub speaker-neither : t ≡ false → Malformed ≡ setSpeaker s d
+    pub speaker-neither : t ≡ false → malformed s ≡ setSpeaker s d
     unfolding setSpeaker
     speaker-neither k = rw (on-test, h, off-test, k)
 
-pub ruleset speaking = (speaker-on, speaker-off, speaker-neither, needs)
+pub ruleset speaking = (answered, speaker-on, speaker-off, speaker-neither, needs)
 
 -- ---- the time format
 
 module _ (s : Settings) (d : List ℕ) where
-  pub format-length : (length d ≡ 1 → ⊥) → Malformed ≡ setFormat s d
+  pub format-length : (length d ≡ 1 → ⊥) → malformed s ≡ setFormat s d
   unfolding setFormat
   format-length n = rw (ne-eqb (length d) 1 n)
 
   module _ (l : length d ≡ 1) (x : ℕ) (p : x ≡ d ! 0) (b : Bool) (e : b ≡ (x is FORMAT-S || x is FORMAT-M)) where
-    pub format-other : not b ≡ true → Malformed ≡ setFormat s d
+    pub format-other : not b ≡ true → malformed s ≡ setFormat s d
     unfolding setFormat
     format-other h = rw (eq-eqb (length d) 1 l, ← p, ← e, not-true b h)
 
-    pub format-right : not b ≡ false → (r : Settings) → r ≡ withFormat s x → To r ≡ setFormat s d
+    pub format-right : not b ≡ false → (r : Settings) → r ≡ withFormat s x → to r ≡ setFormat s d
     unfolding setFormat
     format-right h r g = rw (eq-eqb (length d) 1 l, ← p, ← e, not-false b h, g)
 
-pub ruleset formatting = (format-length, format-other, format-right, needs)
+pub ruleset formatting = (answered, format-length, format-other, format-right, needs)
 
 -- ---- the address
 
 module _ (s : Settings) (d : List ℕ) where
-  pub address-length : (length d ≡ 2 → ⊥) → Malformed ≡ setAddress s d
+  pub address-length : (length d ≡ 2 → ⊥) → malformed s ≡ setAddress s d
   unfolding setAddress
   address-length n = rw (ne-eqb (length d) 2 n)
 
   module _ (l : length d ≡ 2) (x : Two) (e : x ≡ two d) where
-    pub address-letters : x ≡ Bad → Malformed ≡ setAddress s d
+    pub address-letters : x ≡ Bad → malformed s ≡ setAddress s d
     unfolding setAddress
     address-letters h = rw (eq-eqb (length d) 2 l, two-none d (sym e ∙ h))
 
-    pub address-right : (v : ℕ) → x ≡ Value v → (r : Settings) → r ≡ withAddress s v → To r ≡ setAddress s d
+    pub address-right : (v : ℕ) → x ≡ Value v → (r : Settings) → r ≡ withAddress s v → to r ≡ setAddress s d
     unfolding setAddress
     address-right v h r g = let w = two-some d v (sym e ∙ h) in rw (eq-eqb (length d) 2 l, w .0, w .1, g)
 
-pub ruleset addressing = (address-length, address-letters, address-right, needs)
+pub ruleset addressing = (answered, address-length, address-letters, address-right, needs)
 
 -- ---- one of them, by its label
 
--- the answer to what was made of the settings
-pub changed-as : (s : Settings) (x y : Change) (r : Done) → x ≡ y → r ≡ changed s y → r ≡ changed s x
-changed-as s x y r e g = rw e g
-
-pub ruleset changing = (changed-as, needs)
-
 module _ (s : Settings) (l : ℕ) (d : List ℕ) where
   -- k is one of the labels
-  pub set-labelled : (k : ℕ) (x : Change) → l ≡ k → x ≡ setBy s k d → x ≡ setBy s l d
-  set-labelled k x e h = rw e h
+  pub set-labelled : (k : ℕ) (r : Done) → l ≡ k → r ≡ changed (setBy s k d) → r ≡ changed (setBy s l d)
+  set-labelled k r e h = rw e h
 
-  pub set-none : (l ≡ TIME → ⊥) → (l ≡ SPEAKER → ⊥) → (l ≡ FORMAT → ⊥) → (l ≡ ADDRESS → ⊥) → (l ≡ DATE → ⊥) → Unknown ≡ setBy s l d
+  pub set-none : (l ≡ TIME → ⊥) → (l ≡ SPEAKER → ⊥) → (l ≡ FORMAT → ⊥) → (l ≡ ADDRESS → ⊥) → (l ≡ DATE → ⊥) → unknown s ≡ setBy s l d
   unfolding setBy
   set-none a b c f e = rw (ne-eqb l TIME a, ne-eqb l SPEAKER b, ne-eqb l FORMAT c, ne-eqb l DATE e, ne-eqb l ADDRESS f)
 
-pub ruleset labelled = (set-labelled, set-none, needs)
+pub ruleset labelled = (answered, set-labelled, set-none, needs)
 
 -- ---- E
 
@@ -179,11 +172,9 @@ behind-label l d = take-all (length (l ∷ d) - 1) d (omega arith)
 
 module _ (s : Settings) (m : List ℕ) where
   -- the settings that are answered are those after the command
-  change-acts : (x : Change) (r : Done) → r ≡ changed s x → Acts (change (board s m) x) r m
-  unfolding change changed
-  change-acts (To t) r e = acts-done t m r e
-  change-acts Malformed r e = acts-refused 22 s m r e
-  change-acts Unknown r e = acts-refused 21 s m r e
+  change-acts : (x : Change) (r : Done) → r ≡ changed x → Acts (change (board s m) x) r m
+  unfolding changed
+  change-acts x r e = acts-refused (x .number) (x .settings) m r e
 
   pub write-none : (text : List ℕ) (r : Done) → length text ≡ 0 → r ≡ doneAs 22 s 0 → Acts (writeSpecial (board s m) text) r m
   unfolding writeSpecial
@@ -196,12 +187,10 @@ module _ (s : Settings) (m : List ℕ) where
   write-lists [] r a h k e = absurd (h refl)
   write-lists (l ∷ d) r a h k e = rw k (rw (behind-label l d) at e)
 
-  pub write-sets : (text : List ℕ) (x : Change) (r : Done) → (length text ≡ 0 → ⊥) → (text ! 0 ≡ CONFIGURATION → ⊥) →
-      x ≡ setBy s (text ! 0) (take (length text - 1) (drop 1 text)) → r ≡ changed s x → Acts (writeSpecial (board s m) text) r m
+  pub write-sets : (text : List ℕ) (r : Done) → (length text ≡ 0 → ⊥) → (text ! 0 ≡ CONFIGURATION → ⊥) →
+      r ≡ changed (setBy s (text ! 0) (take (length text - 1) (drop 1 text))) → Acts (writeSpecial (board s m) text) r m
   unfolding writeSpecial
-  write-sets [] x r h k p e = absurd (h refl)
-  write-sets (l ∷ d) x r h k p e =
-      let q : x ≡ setBy s l d = rw (behind-label l d) at p in
-      rw (ne-eqb l CONFIGURATION k, ← q) (change-acts x r e)
+  write-sets [] r h k e = absurd (h refl)
+  write-sets (l ∷ d) r h k e = rw (ne-eqb l CONFIGURATION k) (change-acts (setBy s l d) r (rw (behind-label l d) at e))
 
 pub ruleset writing = (write-none, write-lists, write-sets, needs)

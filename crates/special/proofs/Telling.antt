@@ -21,12 +21,12 @@ use Rattle.octets.proofs.Buffers.{length-splice}
 use Rattle.octets.proofs.Ranges.{on}
 use Rattle.buffers.proofs.Splices.{splice-none, splice-next, splice-in, overlay-covers}
 use Rattle.board.specs.Settings.{ON, inRange}
-use Rattle.board.specs.Files.{sizeOf, filesOf, heads, used, unused}
-use Rattle.board.specs.Soundness.{holdsFiles}
+use Rattle.board.specs.Files.{sizeOf, filesOf, heads, unused}
+use Rattle.board.specs.Soundness.{holdsFiles, sound}
 use Rattle.board.specs.declared.Settings.{Settings}
 use Rattle.board.proofs.Ranges.{range, month-most, day-most, year-most}
 use Rattle.board.proofs.Walking.{Standing, room, stand-start, stand-next, standing}
-use Rattle.board.proofs.Inside.{sound-ranged, sound-held, sound-least, sound-most, used-inside, unused-told, heads-step, heads-none}
+use Rattle.board.proofs.Inside.{sound-ranged, sound-held, sound-least, sound-most, sound-unused, heads-step, heads-none}
 use Rattle.effects.specs.Reply.{replyOf}
 use Rattle.effects.specs.Effects.{Board, board, replied, refuse}
 use Rattle.special.specs.Special.{TIME, SPEAKER, POOL, CONFIGURATION, FORMAT, DATE}
@@ -83,9 +83,6 @@ module _ {s : Settings} {m out : List ℕ} (g : Ready s m out) where
   -- what memory holds is told in four digits
   pub total-fits : Fits w16 (length m)
   total-fits = record { fits = omega (arith, sound-most s m (g .sound)) }
-
-  pub rest-fits : (u : ℕ) → Fits w16 (length m - u)
-  rest-fits u = record { fits = omega (arith, sound-most s m (g .sound)) }
 
 -- ---- the time and the date
 
@@ -148,21 +145,27 @@ pub ruleset speaker = (character-on, character-off, speaker-put, needs)
 
 -- ---- the pool
 
-pub pool-put : (s : Settings) (m out : List ℕ) (u : ℕ) (a b c : List ℕ) → Ready s m out → u ≡ used (filesOf (s .files) m) →
-    a ≡ splice out 27 (inHex4 (length m)) → b ≡ splice a 31 (COMMA ∷ []) → c ≡ splice b 32 (inHex4 (length m - u)) →
+pub pool-put : (s : Settings) (m out a b c : List ℕ) → Ready s m out →
+    a ≡ splice out 27 (inHex4 (length m)) → b ≡ splice a 31 (COMMA ∷ []) → c ≡ splice b 32 (inHex4 (s .unused)) →
     Told out (tellPool (board s m)) c 9
 unfolding tellPool inHex4
-pool-put s m out u a b c g e p q r =
+pool-put s m out a b c g p q r =
     let h = ready-room g in
     let x = inHex4 (length m) in
     let y : List ℕ = COMMA ∷ [] in
-    let z = inHex4 (unused (s .files) m) in
+    let z = inHex4 (s .unused) in
     record {
-      stored = r ∙ rw (unused-told m (s .files) u e, q, p, splice-next out 27 x y 31 (omega arith) refl) (splice-next out 27 (x ++ y) z 32 (omega arith) refl);
+      stored = r ∙ rw (q, p, splice-next out 27 x y 31 (omega arith) refl) (splice-next out 27 (x ++ y) z 32 (omega arith) refl);
       long = refl;
     }
 
-pub ruleset pool = (ready-held, ready-room, total-fits, rest-fits, used-inside, pool-put, needs)
+pub ruleset pool = (ready-room, total-fits, pool-put, needs)
+
+-- request 3, "The reply must not change.": on a sound board it is told what the records add up to
+pub pool-unchanged : (s : Settings) (m : List ℕ) → sound s m ≡ true →
+    tellPool (board s m) ≡ inHex4 (length m) ++ (COMMA ∷ inHex4 (unused (s .files) m))
+unfolding tellPool
+pool-unchanged s m e = rw (sound-unused s m e)
 
 -- ---- the records
 

@@ -9,13 +9,11 @@ use Rattle.octets.specs.Carried.{isCarried2, carried2}
 use Rattle.octets.specs.Decimal.{isDecimal, decimal2, inDecimal2}
 use Rattle.octets.specs.Bytes.{COMMA, ZERO, E, F}
 use Rattle.board.specs.Settings.{FORMAT-S, FORMAT-M, OFF, ON, inDate, withTime, withDate, withFormat, withSpeaker, withAddress}
-use Rattle.board.specs.Files.{filesOf, heads, unused}
+use Rattle.board.specs.Files.{filesOf, heads}
 use Rattle.effects.specs.Reply.{replyOf}
-use Rattle.effects.specs.Effects.{Board, board, Effect, done, replied, refuse}
+use Rattle.effects.specs.Effects.{Board, board, Effect, replied, refuse}
 use Rattle.special.specs.Configuration.{configure}
 use Rattle.board.specs.declared.Settings.{Settings}
-use Rattle.special.specs.declared.Change.{Change}
-use Rattle.special.specs.declared.Change.the-variants.{To, Malformed, Unknown}
 
 -- label 20H
 abbrev pub TIME : ℕ
@@ -45,34 +43,50 @@ ADDRESS = 0x37
 abbrev pub DATE : ℕ
 DATE = 0x3B
 
+-- what a special function makes of the settings: its number, and the settings after it
+pub record Change : Type 0 where
+  pub number : ℕ
+  pub settings : Settings
+
+-- done, with these
+abbrev pub to : Settings → Change
+to s = record { number = 0; settings = s }
+
+-- refused, with those that were: 22 "data missing, in excess, or malformed", 21 "unknown .. function label"
+abbrev pub malformed : Settings → Change
+malformed s = record { number = 22; settings = s }
+
+abbrev pub unknown : Settings → Change
+unknown s = record { number = 21; settings = s }
+
 -- "four digits HhMm, 00:00 to 23:59"
 unfoldable pub setTime : Settings → List ℕ → Change
 setTime s d =
     if length d is 4 && (all isDecimal d && (decimal2 d ≤? 23 && decimal2 (drop 2 d) ≤? 59))
-    then To (withTime s (decimal2 d) (decimal2 (drop 2 d)))
-    else Malformed
+    then to (withTime s (decimal2 d) (decimal2 (drop 2 d)))
+    else malformed s
 
 -- ""00" speaker on, "FF" off"
 unfoldable pub setSpeaker : Settings → List ℕ → Change
 setSpeaker s d =
-    if length d is 2 && (d ! 0 is ZERO && d ! 1 is ZERO) then To (withSpeaker s ON)
-    else if length d is 2 && (d ! 0 is F && d ! 1 is F) then To (withSpeaker s OFF)
-    else Malformed
+    if length d is 2 && (d ! 0 is ZERO && d ! 1 is ZERO) then to (withSpeaker s ON)
+    else if length d is 2 && (d ! 0 is F && d ! 1 is F) then to (withSpeaker s OFF)
+    else malformed s
 
 -- ""S" or "M""
 unfoldable pub setFormat : Settings → List ℕ → Change
-setFormat s d = if length d is 1 && (d ! 0 is FORMAT-S || d ! 0 is FORMAT-M) then To (withFormat s (d ! 0)) else Malformed
+setFormat s d = if length d is 1 && (d ! 0 is FORMAT-S || d ! 0 is FORMAT-M) then to (withFormat s (d ! 0)) else malformed s
 
 -- "six digits MmDdYy"; request 1, of a date that does not exist: "A date that breaks this is malformed."
 unfoldable pub setDate : Settings → List ℕ → Change
 setDate s d =
     if length d is 6 && (all isDecimal d && inDate (decimal2 d) (decimal2 (drop 2 d)) (decimal2 (drop 4 d)))
-    then To (withDate s (decimal2 d) (decimal2 (drop 2 d)) (decimal2 (drop 4 d)))
-    else Malformed
+    then to (withDate s (decimal2 d) (decimal2 (drop 2 d)) (decimal2 (drop 4 d)))
+    else malformed s
 
 -- "two hex digits, the serial address from the next frame on"
 unfoldable pub setAddress : Settings → List ℕ → Change
-setAddress s d = if length d is 2 && isCarried2 d then To (withAddress s (carried2 d)) else Malformed
+setAddress s d = if length d is 2 && isCarried2 d then to (withAddress s (carried2 d)) else malformed s
 
 -- a command to set the serial address, right or not
 abbrev pub setsAddress : ℕ → List ℕ → Bool
@@ -86,13 +100,11 @@ setBy s label d =
     else if label is FORMAT then setFormat s d
     else if label is DATE then setDate s d
     else if label is ADDRESS then setAddress s d
-    else Unknown
+    else unknown s
 
--- 22 "data missing, in excess, or malformed", 21 "unknown .. function label"
-unfoldable pub change : Board → Change → Effect
-change b (To s) = done (board s (b .memory))
-change b Malformed = refuse 22 b
-change b Unknown = refuse 21 b
+-- what the board is then: its memory stays
+abbrev pub change : Board → Change → Effect
+change b c = record { number = c .number; after = board (c .settings) (b .memory); reply = [] }
 
 -- E: "a known command without its label is 22"
 unfoldable pub writeSpecial : Board → List ℕ → Effect
@@ -103,9 +115,9 @@ writeSpecial b (label ∷ d) = if label is CONFIGURATION then configure b d else
 unfoldable pub tellSpeaker : Settings → List ℕ
 tellSpeaker s = if s .speaker is ON then ZERO ∷ ZERO ∷ [] else F ∷ F ∷ []
 
--- ""#" gives POOL,pool, total and unused, four hex digits each"
+-- ""#" gives POOL,pool, total and unused, four hex digits each"; request 3: the amount that the settings keep
 unfoldable pub tellPool : Board → List ℕ
-tellPool b = inHex4 (length (b .memory)) ++ (COMMA ∷ inHex4 (unused (b .settings .files) (b .memory)))
+tellPool b = inHex4 (length (b .memory)) ++ (COMMA ∷ inHex4 (b .settings .unused))
 
 -- the time and the date, as they are set
 unfoldable pub tellTime : Settings → List ℕ

@@ -22,6 +22,6 @@ pub fn configure(s: Settings, m: &mut [u8], d: &[u8]) -> Done
         return quiet(s, number);
     }
     let n = d.len() / RECORD;
-    lay(m, d, n);
-    quiet(s.with_files(n as u8), 0)
+    let unused = lay(m, d, n);
+    quiet(s.with_files(n as u8, unused), 0)
 }

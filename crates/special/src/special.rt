@@ -1,10 +1,8 @@
 // The special functions: E sets, F tells.
-use crate::Change;
 use crate::configuration::configure;
 use board::Settings;
 use board::files::RECORD;
 use board::files::file_length;
-use board::files::used;
 use board::setting::OFF;
 use board::setting::ON;
 use board::setting::in_date;
@@ -59,98 +57,87 @@ const ADDRESS: u8 = 0x37;
 const DATE: u8 = 0x3B;
 
 // "four digits HhMm, 00:00 to 23:59"
-fn set_time(s: Settings, d: &[u8]) -> Change
-    ensures { λ r. ⌜ r ≡ setTime s (now (d .entry)) ⌝ }
+fn set_time(s: Settings, d: &[u8]) -> Done
+    ensures { λ r. ⌜ r ≡ changed (setTime s (now (d .entry))) ⌝ }
 {
     if d.len() != 4 {
-        return Change::Malformed;
+        return quiet(s, MALFORMED);
     }
     if !all_decimal(d) {
-        return Change::Malformed;
+        return quiet(s, MALFORMED);
     }
     let hour = decimal_at(d, 0);
     let minute = decimal_at(d, 2);
     if !in_time(hour, minute) {
-        return Change::Malformed;
+        return quiet(s, MALFORMED);
     }
-    Change::To(s.with_time(hour, minute))
+    quiet(s.with_time(hour, minute), 0)
 }
 
 // ""00" speaker on, "FF" off"
-fn set_speaker(s: Settings, d: &[u8]) -> Change
-    ensures { λ r. ⌜ r ≡ setSpeaker s (now (d .entry)) ⌝ }
+fn set_speaker(s: Settings, d: &[u8]) -> Done
+    ensures { λ r. ⌜ r ≡ changed (setSpeaker s (now (d .entry))) ⌝ }
 {
     let on = [ZERO, ZERO];
     if same(d, &on) {
-        return Change::To(s.with_speaker(ON));
+        return quiet(s.with_speaker(ON), 0);
     }
     let off = [F, F];
     if same(d, &off) {
-        return Change::To(s.with_speaker(OFF));
+        return quiet(s.with_speaker(OFF), 0);
     }
-    Change::Malformed
+    quiet(s, MALFORMED)
 }
 
 // ""S" or "M""
-fn set_format(s: Settings, d: &[u8]) -> Change
-    ensures { λ r. ⌜ r ≡ setFormat s (now (d .entry)) ⌝ }
+fn set_format(s: Settings, d: &[u8]) -> Done
+    ensures { λ r. ⌜ r ≡ changed (setFormat s (now (d .entry))) ⌝ }
 {
     if d.len() != 1 {
-        return Change::Malformed;
+        return quiet(s, MALFORMED);
     }
     let format = d[0];
     if !is_format(format) {
-        return Change::Malformed;
+        return quiet(s, MALFORMED);
     }
-    Change::To(s.with_format(format))
+    quiet(s.with_format(format), 0)
 }
 
 // "six digits MmDdYy"; request 1, of a date that does not exist: "A date that breaks this is malformed."
-fn set_date(s: Settings, d: &[u8]) -> Change
-    ensures { λ r. ⌜ r ≡ setDate s (now (d .entry)) ⌝ }
+fn set_date(s: Settings, d: &[u8]) -> Done
+    ensures { λ r. ⌜ r ≡ changed (setDate s (now (d .entry))) ⌝ }
 {
     if d.len() != 6 {
-        return Change::Malformed;
+        return quiet(s, MALFORMED);
     }
     if !all_decimal(d) {
-        return Change::Malformed;
+        return quiet(s, MALFORMED);
     }
     let month = decimal_at(d, 0);
     let day = decimal_at(d, 2);
     let year = decimal_at(d, 4);
     if !in_date(month, day, year) {
-        return Change::Malformed;
+        return quiet(s, MALFORMED);
     }
-    Change::To(s.with_date(month, day, year))
+    quiet(s.with_date(month, day, year), 0)
 }
 
 // "two hex digits, the serial address from the next frame on"
-fn set_address(s: Settings, d: &[u8]) -> Change
-    ensures { λ r. ⌜ r ≡ setAddress s (now (d .entry)) ⌝ }
+fn set_address(s: Settings, d: &[u8]) -> Done
+    ensures { λ r. ⌜ r ≡ changed (setAddress s (now (d .entry))) ⌝ }
 {
     if d.len() != 2 {
-        return Change::Malformed;
+        return quiet(s, MALFORMED);
     }
     match two_at(d, 0) {
-        Two::Bad => Change::Malformed,
-        Two::Value(address) => Change::To(s.with_address(address)),
-    }
-}
-
-// 22, or the next settings.
-fn change(s: Settings, next: Change) -> Done
-    ensures { λ r. ⌜ r ≡ changed s next ⌝ }
-{
-    match next {
-        Change::To(settings) => quiet(settings, 0),
-        Change::Malformed => quiet(s, MALFORMED),
-        Change::Unknown => quiet(s, UNKNOWN),
+        Two::Bad => quiet(s, MALFORMED),
+        Two::Value(address) => quiet(s.with_address(address), 0),
     }
 }
 
 // E, but for "$": the settings alone change.
-fn set_by(s: Settings, label: u8, d: &[u8]) -> Change
-    ensures { λ r. ⌜ r ≡ setBy s label (now (d .entry)) ⌝ }
+fn set_by(s: Settings, label: u8, d: &[u8]) -> Done
+    ensures { λ r. ⌜ r ≡ changed (setBy s label (now (d .entry))) ⌝ }
 {
     match label {
         TIME => set_time(s, d),
@@ -158,7 +145,7 @@ fn set_by(s: Settings, label: u8, d: &[u8]) -> Change
         FORMAT => set_format(s, d),
         DATE => set_date(s, d),
         ADDRESS => set_address(s, d),
-        _ => Change::Unknown,
+        _ => quiet(s, UNKNOWN),
     }
 }
 
@@ -174,7 +161,7 @@ pub fn write_special(s: Settings, m: &mut [u8], text: &[u8]) -> Done
     if label == CONFIGURATION {
         return configure(s, m, &text[1..]);
     }
-    change(s, set_by(s, label, &text[1..]))
+    set_by(s, label, &text[1..])
 }
 
 // The time, as it is set.
@@ -245,16 +232,15 @@ fn tell_records(m: &[u8], n: usize, out: &mut [u8]) -> usize
     place - DATA
 }
 
-// ""#" gives POOL,pool, total and unused, four hex digits each"
+// ""#" gives POOL,pool, total and unused, four hex digits each"; no record is looked at.
 fn tell_pool(s: Settings, m: &[u8], out: &mut [u8]) -> usize
     requires { ⌜ Ready s (now m) (now out) ⌝ }
     ensures { λ r. ⌜ Told (now (out .entry)) (tellPool (board s (now (m .entry)))) (now (out .exit)) r ⌝ }
 {
-    let unused = m.len() - used(m, s.files as usize);
     put_four(out, DATA, m.len() as u16);
     let comma = [COMMA];
     copy_at(out, DATA + 4, &comma);
-    put_four(out, DATA + 5, unused as u16);
+    put_four(out, DATA + 5, s.unused);
     9
 }
 

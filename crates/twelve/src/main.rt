@@ -246,7 +246,7 @@ fn same_settings(a: Settings, b: Settings) -> bool {
         b.own,
         b.files,
     ];
-    same(&x, &y)
+    same(&x, &y) && a.unused == b.unused
 }
 
 // A content without its zeros.

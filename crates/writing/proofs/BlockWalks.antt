@@ -1,6 +1,6 @@
 -- A loop over the blocks of a good body: what it has still to do, from block to block.
 use mathlib.Core.Path.{_≡_, refl, sym, ap, _∙_}
-use mathlib.Core.Bool.{Bool, true, false, not, _&&_, _||_}
+use mathlib.Core.Bool.{Bool, true, false, not, _||_}
 use mathlib.Core.List.{List, [], _∷_, append-nil}
 use Prim.Native.Nat.{ℕ, _+_, _-_, _*_, _<_, _≤_}
 use native.Mathlib.Omega.{arith}
@@ -8,7 +8,7 @@ use borrow.Author.Needs.{needs}
 use borrow.Author.Tests.{not-true, not-false}
 use lib.ListN.{length, drop, length-take, length-drop}
 use Rattle.octets.specs.Bytes.{TRANSLATED, BLOCKS}
-use Rattle.octets.proofs.Tests.{never}
+use Rattle.octets.proofs.Tests.{never, and-some}
 use Rattle.body.specs.Body.{Block, block, Body, badBody, body, prepend, blocks, isRead, hasRead}
 use Rattle.body.specs.Steps.{foundAt}
 use Rattle.body.specs.Walking.{part, isBody, blocksIn, bodyAt, blocksAt}
@@ -79,10 +79,6 @@ module _ {s : List ℕ} {at left : ℕ} (g : Good s at left) where
       unfolding rest here
       rest-more = rw behind (prepend-in here _ (good-more .good))
 
-and-true : (t : Bool) → (t && true) ≡ t
-and-true true = refl
-and-true false = refl
-
 or-false : (t : Bool) → (t || false) ≡ t
 or-false true = refl
 or-false false = refl
@@ -137,7 +133,7 @@ module _ {s : List ℕ} {from at left : ℕ} (g : Righting s from at left) where
 
     pub right-last : {c i j : ℕ} {k : Bool} → r ≡ Last c i j k → k ≡ allRight (blocksAt s from)
     unfolding allRight
-    right-last {k} h = sym (and-true k) ∙ sym (ap allRight (rest-last (g .good) p r e h)) ∙ g .same
+    right-last {k} h = sym (and-some k refl) ∙ sym (ap allRight (rest-last (g .good) p r e h)) ∙ g .same
 
     module _ {c i j : ℕ} {k : Bool} {n : ℕ} (h : r ≡ More c i j k n) where
       pub right-wrong : not k ≡ true → false ≡ allRight (blocksAt s from)

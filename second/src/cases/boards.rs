@@ -1,12 +1,14 @@
 //! Boards for the runs: sound ones from end to end of what document 01 allows,
 //! and sound ones damaged in one place.
 
+use super::amounts;
 use super::dates;
 use super::dice::Dice;
 use crate::bytes::NUL;
 use crate::files::{walk, File, MOST_FILES};
 use crate::header::is_own_type;
 use crate::record::{Kind, Record, LAST_TIME_CODE, LONGEST_STRING, RECORD_LENGTH};
+use crate::right_amount::right_amount;
 use crate::settings::{Settings, FIELDS, MILITARY_FORMAT, STANDARD_FORMAT};
 use crate::soundness::{LEAST_MEMORY, MOST_MEMORY};
 
@@ -45,11 +47,32 @@ pub fn small(dice: &mut Dice) -> Board {
     board_of(dice, length, records)
 }
 
+/// A sound board in a small memory, without files in one of four.
+pub fn small_or_empty(dice: &mut Dice) -> Board {
+    if dice.chance(25) {
+        let length = dice.between(LEAST_MEMORY, SMALL_MEMORY);
+        board_of(dice, length, Vec::new())
+    } else {
+        small(dice)
+    }
+}
+
 fn board_of(dice: &mut Dice, length: usize, records: Vec<Record>) -> Board {
-    Board {
+    let mut board = Board {
         settings: settings(dice, count_of(&records)),
         memory: memory_of(dice, length, &records),
         records,
+    };
+    give_right_amount(&mut board);
+    board
+}
+
+/// Gives a board the unused amount that its files leave (request 3). Where a
+/// damaged board's records cannot be followed no amount is right, and the one
+/// that was there stays.
+fn give_right_amount(board: &mut Board) {
+    if let Some(unused) = right_amount(&board.memory, board.settings.files) {
+        board.settings.unused = unused;
     }
 }
 
@@ -271,8 +294,18 @@ pub fn message(dice: &mut Dice, length: usize) -> Vec<u8> {
     }
 }
 
-/// Damages a board in one place. Now and then it stays sound.
+/// Damages a board in one place: its unused amount, or something else and the
+/// amount is right for that. Now and then it stays sound.
 pub fn damage(dice: &mut Dice, board: &mut Board) {
+    if dice.chance(8) {
+        board.settings = amounts::wrong(dice, board.settings, board.memory.len());
+    } else {
+        damage_elsewhere(dice, board);
+        give_right_amount(board);
+    }
+}
+
+fn damage_elsewhere(dice: &mut Dice, board: &mut Board) {
     match dice.below(10) {
         0 | 1 => damage_settings(dice, board),
         2 => damage_any_byte(dice, board),
@@ -306,7 +339,7 @@ fn damage_settings(dice: &mut Dice, board: &mut Board) {
         ]),
         _ => any,
     };
-    board.settings = Settings::from_fields(fields);
+    board.settings = board.settings.with_fields(fields);
 }
 
 /// Any byte of memory becomes any byte.

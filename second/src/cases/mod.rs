@@ -1,5 +1,6 @@
 //! Random cases for the stream, the same from the same seed everywhere.
 
+pub mod amounts;
 pub mod blocks;
 pub mod boards;
 pub mod dates;
@@ -24,7 +25,7 @@ use crate::stream::{
 use crate::translation::{MOST_PRINTABLE, MOST_TRANSLATED};
 
 /// How often each call is made, in the order of [`CALLS`].
-const WEIGHTS: [usize; CALLS.len()] = [8, 56, 14, 20, 18, 18, 7, 10];
+const WEIGHTS: [usize; CALLS.len()] = [8, 62, 14, 20, 18, 18, 7, 10];
 
 /// Writes so many cases, of these calls only.
 pub fn write_cases(
@@ -99,9 +100,10 @@ fn fresh_case(dice: &mut Dice) -> Case {
 
 /// A run: most times on a sound board that the frame reaches.
 fn run_case(dice: &mut Dice) -> Case {
-    match dice.below(100) {
+    match dice.below(109) {
         0..=56 => good_run(dice),
         57..=73 => wrong_date_run(dice),
+        74..=82 => wrong_amount_run(dice),
         _ => any_run(dice),
     }
 }
@@ -116,7 +118,7 @@ fn any_run(dice: &mut Dice) -> Case {
         _ => dice.between(1, 4),
     };
     let mut sketch = sketch_for(dice, &board, count);
-    if dice.chance(30) {
+    if dice.chance(32) {
         boards::damage(dice, &mut board);
     }
     let short_by = match dice.below(10) {
@@ -159,6 +161,15 @@ fn good_run(dice: &mut Dice) -> Case {
 fn wrong_date_run(dice: &mut Dice) -> Case {
     let mut board = boards::small(dice);
     board.settings = dates::wrong(dice).on(board.settings);
+    let count = dice.between(1, 4);
+    run_on(dice, board, count)
+}
+
+/// A run that would be good, on a board whose unused amount is wrong. A small
+/// board will do here too, and one without files is drawn often.
+fn wrong_amount_run(dice: &mut Dice) -> Case {
+    let mut board = boards::small_or_empty(dice);
+    board.settings = amounts::wrong(dice, board.settings, board.memory.len());
     let count = dice.between(1, 4);
     run_on(dice, board, count)
 }

@@ -9,6 +9,7 @@ use crate::numbers::{
     MALFORMED, MESSAGE_TOO_LONG, NOT_ADDRESSED, NOT_SOUND, NO_FILE, NO_ROOM, READ_NOT_LAST,
     SHORT_REPLY_BUFFER, UNKNOWN, WRONG_MEMORY, WRONG_SUM, WRONG_TYPE,
 };
+use crate::right_amount::right_amount;
 use crate::run::{run, REPLY_MARGIN};
 use crate::settings::Settings;
 use crate::source;
@@ -55,6 +56,44 @@ impl Kit {
         if let Some(byte) = self.memory.get_mut(place) {
             *byte = value;
         }
+        self.with_right_amount()
+    }
+
+    /// The board with one field of the settings changed.
+    pub fn with_field(mut self, place: usize, value: u8) -> Kit {
+        let mut fields = self.settings.fields();
+        if let Some(field) = fields.get_mut(place) {
+            *field = value;
+        }
+        self.settings = self.settings.with_fields(fields);
+        self.with_right_amount()
+    }
+
+    /// The board with another memory.
+    pub fn with_memory(mut self, memory: Vec<u8>) -> Kit {
+        self.memory = memory;
+        self.with_right_amount()
+    }
+
+    /// The board with another number of files told.
+    pub fn with_files(mut self, files: u8) -> Kit {
+        self.settings.files = files;
+        self.with_right_amount()
+    }
+
+    /// The board with the unused amount that its files leave (request 3), so
+    /// that it is unsound for its own reason alone. Where the records cannot be
+    /// followed no amount is right, and the one that was there stays.
+    fn with_right_amount(mut self) -> Kit {
+        if let Some(unused) = right_amount(&self.memory, self.settings.files) {
+            self.settings.unused = unused;
+        }
+        self
+    }
+
+    /// The board with this unused amount, right or wrong.
+    pub fn with_amount(mut self, unused: u16) -> Kit {
+        self.settings.unused = unused;
         self
     }
 }
@@ -100,7 +139,7 @@ pub(super) struct List {
 }
 
 impl List {
-    fn fresh(&mut self, about: &str, number: Number, own_type: u8, length: usize) {
+    pub(super) fn fresh(&mut self, about: &str, number: Number, own_type: u8, length: usize) {
         let case = Case::Fresh {
             own_type,
             memory: vec![FILLER; length],
@@ -389,12 +428,7 @@ impl List {
             (9, 65, 2),
         ] {
             for (value, number) in [(bad, NOT_SOUND), (edge, DONE)] {
-                let mut kit = good.clone();
-                let mut fields = kit.settings.fields();
-                if let Some(field) = fields.get_mut(place) {
-                    *field = value;
-                }
-                kit.settings = Settings::from_fields(fields);
+                let kit = good.clone().with_field(place, value);
                 self.run("a field of the settings", number, &kit, &frame);
             }
         }
@@ -433,8 +467,7 @@ impl List {
             self.run("a byte of memory", number, &kit, &frame);
         }
         for (length, number) in [(63, NOT_SOUND), (64, DONE), (65, DONE)] {
-            let mut kit = Kit::fresh(b'C', 64);
-            kit.memory = vec![0; length];
+            let kit = Kit::fresh(b'C', 64).with_memory(vec![0; length]);
             self.run("a length of memory", number, &kit, &frame);
         }
     }
@@ -718,7 +751,7 @@ impl List {
             .take(65)
             .flat_map(|label| [&[label], b"AU0001FF00".as_slice()].concat())
             .collect();
-        let mut kit = Kit::fresh(b'C', 768);
+        let kit = Kit::fresh(b'C', 768);
         for (length, first) in [(64 * 11, BAD_LIST), (63 * 11, DONE)] {
             let list = [b"E$".as_slice(), &records[..length]].concat();
             let frame = plain(b"Z00", &[&list, b"F#"]);
@@ -740,7 +773,7 @@ impl List {
                 768 + REPLY_MARGIN,
             );
         }
-        kit.memory.pop();
+        let kit = Kit::fresh(b'C', 767);
         let list = [b"E$".as_slice(), &records[..64 * 11]].concat();
         let frame = plain(b"Z00", &[&list]);
         self.blocks("64 files and one byte too few", NO_ROOM, &kit, &frame);

@@ -138,25 +138,37 @@ fn large_records() -> Vec<Vec<u8>> {
 /// A board whose memory holds these files and not a byte more, whatever their
 /// number; nothing here asks whether it is sound.
 fn laid(records: &[Vec<u8>], size: usize) -> Kit {
-    let mut kit = Kit::fresh(b'C', LEAST_MEMORY);
-    kit.memory = records
+    let memory = records
         .iter()
         .flat_map(|record| [record.clone(), vec![b'x'; size]].concat())
         .collect();
-    kit.settings.files = u8::try_from(records.len()).unwrap_or(u8::MAX);
-    kit
+    Kit::fresh(b'C', LEAST_MEMORY)
+        .with_memory(memory)
+        .with_files(u8::try_from(records.len()).unwrap_or(u8::MAX))
+}
+
+/// The board with one zero more at memory's end.
+fn longer(kit: &Kit) -> Kit {
+    let mut memory = kit.memory.clone();
+    memory.push(NUL);
+    kit.clone().with_memory(memory)
+}
+
+/// The board with one byte less at memory's end.
+fn shorter(kit: &Kit) -> Kit {
+    let mut memory = kit.memory.clone();
+    memory.pop();
+    kit.clone().with_memory(memory)
 }
 
 /// "It holds 0 to 64 files": boards of 0, 63 and 64 of them.
 fn full_boards(list: &mut List) {
     let frame = plain(b"Z00", &[b"E'M", b"F#"]);
     list.run("64 files in just enough memory", DONE, &full(), &frame);
-    let mut kit = laid(&records(MOST_FILES, 1), 1);
+    let kit = laid(&records(MOST_FILES, 1), 1);
     list.run("64 files of one byte each", DONE, &kit, &frame);
-    kit.memory.push(NUL);
-    list.run("one byte of memory more", DONE, &kit, &frame);
-    kit.memory.truncate(LEAST_FOR_ALL - 1);
-    list.run("one byte of memory less", NOT_SOUND, &kit, &frame);
+    list.run("one byte of memory more", DONE, &longer(&kit), &frame);
+    list.run("one byte of memory less", NOT_SOUND, &shorter(&kit), &frame);
     let kit = laid(&records(MOST_FILES - 1, 1), 1);
     list.run("63 files", DONE, &kit, &frame);
     let kit = Kit::fresh(b'C', LEAST_MEMORY);
@@ -168,17 +180,15 @@ fn full_boards(list: &mut List) {
 /// One beyond: 65 files, 63 bytes, and a number of files that is not memory's.
 fn boards_beyond(list: &mut List) {
     let frame = plain(b"Z00", &[b"E'M", b"F#"]);
-    let mut kit = laid(&records(MOST_FILES + 1, 1), 1);
+    let kit = laid(&records(MOST_FILES + 1, 1), 1);
     list.run("65 files", NOT_SOUND, &kit, &frame);
-    kit.settings.files = 64;
+    let kit = kit.with_files(64);
     list.run("65 files, 64 told", NOT_SOUND, &kit, &frame);
     for files in [0, 63, 65, 255] {
-        let mut kit = full();
-        kit.settings.files = files;
+        let kit = full().with_files(files);
         list.run("64 files, another number told", NOT_SOUND, &kit, &frame);
     }
-    let mut kit = Kit::fresh(b'C', LEAST_MEMORY);
-    kit.memory.pop();
+    let kit = shorter(&Kit::fresh(b'C', LEAST_MEMORY));
     list.run("0 files in 63 bytes", NOT_SOUND, &kit, &frame);
     let kit = laid(&[record(b'A', true, 52)], 52);
     list.run("a file that fills 63 bytes", NOT_SOUND, &kit, &frame);
@@ -374,15 +384,14 @@ fn refusals_in_full_frames(list: &mut List) {
 /// "Memory is 64 to 32,768 bytes", with 0 and with 64 files, and one byte more.
 fn large_boards(list: &mut List) {
     let frame = plain(b"Z00", &[b"E'M", b"F#"]);
-    for (about, mut kit) in [
+    for (about, kit) in [
         ("0 files", Kit::fresh(b'C', MOST_MEMORY)),
         ("64 files", large()),
     ] {
         let in_most = format!("{about} in 32,768 bytes");
         list.run(&in_most, DONE, &kit, &frame);
-        kit.memory.push(NUL);
         let in_more = format!("{about} in 32,769 bytes");
-        list.run(&in_more, NOT_SOUND, &kit, &frame);
+        list.run(&in_more, NOT_SOUND, &longer(&kit), &frame);
     }
     let kit = large().with_byte(MOST_MEMORY - 1, 0x04);
     list.run("04H in the very last byte", NOT_SOUND, &kit, &frame);

@@ -9,6 +9,7 @@ pub mod days_between;
 pub mod full;
 pub mod outputs;
 pub mod renewals;
+pub mod unused;
 pub mod weekdays;
 
 use std::io::{self, Write};
@@ -39,13 +40,14 @@ impl Stored {
 }
 
 /// All fixed cases: writing, re-forming and joining first, then the boards,
-/// the full ones behind the others, then the dates of boards, then the calls
-/// that reckon with dates.
+/// the full ones behind the others, then the dates of boards and their unused
+/// amounts, then the calls that reckon with dates.
 pub fn all() -> Vec<Stored> {
     let mut cases = outputs::all();
     cases.extend(boards::all());
     cases.extend(full::all());
     cases.extend(dates::all());
+    cases.extend(unused::all());
     cases.extend(renewals::all());
     cases.extend(weekdays::all());
     cases.extend(days_between::all());

@@ -1,9 +1,11 @@
 //! What is looked for in a stream of cases, the random and the fixed ones: the
 //! ends of what document 01 allows, every command on a crowded board, the end
-//! of every month as a command and on a board, and what request 6 reckons.
+//! of every month as a command and on a board, right and wrong unused amounts,
+//! and what request 6 reckons.
 
 use std::collections::{BTreeMap, BTreeSet};
 
+use crate::amounts::{amounts_of, walked, wanted_amounts, Amount};
 use crate::dates::{sorts_of, sorts_of_text, wanted_sorts, Sort};
 use crate::reckoned::{shown_by, wanted as wanted_of_reckoning, Shown};
 use second::body::{Block, MOST_BLOCKS};
@@ -12,7 +14,7 @@ use second::bytes::{
     STX, TIME, TIME_FORMAT, WRITE_SPECIAL, WRITE_STRING, WRITE_TEXT,
 };
 use second::commands::{run_block, Board};
-use second::files::{unused, walk, MOST_FILES};
+use second::files::{walk, MOST_FILES};
 use second::frame;
 use second::header::addressed;
 use second::hex::frame_digit;
@@ -89,6 +91,9 @@ pub enum Fact {
     SetDate(Sort),
     /// A board with a date of this sort, all else sound and good: 0, or 1.
     BoardDate(Sort),
+    /// A board with an unused amount that lies so to the right one, without or
+    /// with files, all else sound and good: 0, or 1.
+    BoardAmount { amount: Amount, has_files: bool },
     /// A renewal date, a weekday or the days between two dates.
     Reckoned(Shown),
 }
@@ -126,8 +131,21 @@ pub fn wanted() -> Vec<Fact> {
     wanted.extend(READ.map(|label| Fact::Function(READ_SPECIAL, label)));
     wanted.extend(wanted_sorts().into_iter().map(Fact::SetDate));
     wanted.extend(wanted_sorts().into_iter().map(Fact::BoardDate));
+    wanted.extend(wanted_board_amounts());
     wanted.extend(wanted_of_reckoning().into_iter().map(Fact::Reckoned));
     wanted
+}
+
+/// Right amounts and every wrong one, without files and with them.
+pub fn wanted_board_amounts() -> Vec<Fact> {
+    [false, true]
+        .into_iter()
+        .flat_map(|has_files| {
+            wanted_amounts(has_files)
+                .into_iter()
+                .map(move |amount| Fact::BoardAmount { amount, has_files })
+        })
+        .collect()
 }
 
 /// The facts of a stream, each with how often it was seen.
@@ -189,10 +207,12 @@ impl Seen {
                 },
                 Answer::Run { ran, .. },
             ) => {
-                self.look_at_date(settings, &ran, |settings| {
+                let number = |settings| {
                     let (mut memory, mut reply) = (memory.clone(), reply.clone());
                     run(settings, &mut memory, &mut reply, &frame).number
-                });
+                };
+                self.look_at_date(settings, &ran, number);
+                self.look_at_amount(settings, &memory, &ran, number);
                 if is_sound(settings, &memory) {
                     self.look_at_board(settings, &memory);
                     self.look_at_buffer(&memory, &reply, &ran);
@@ -225,6 +245,37 @@ impl Seen {
         }
     }
 
+    /// The unused amount of a board that was handed in with all else sound and
+    /// good: with the right amount in its place the frame is run.
+    fn look_at_amount(
+        &mut self,
+        settings: Settings,
+        memory: &[u8],
+        ran: &Ran,
+        number: impl Fn(Settings) -> u8,
+    ) {
+        let Some(right) = walked(memory, settings.files) else {
+            return;
+        };
+        let number_with_right = if settings.unused == right {
+            ran.number
+        } else {
+            number(with_amount(settings, right))
+        };
+        if number_with_right != DONE {
+            return;
+        }
+        let has_files = settings.files > 0;
+        for amount in amounts_of(settings.unused, right, memory.len()) {
+            let expected = match amount {
+                Amount::Right => DONE,
+                _ => NOT_SOUND,
+            };
+            assert_eq!(ran.number, expected, "{amount:?}");
+            self.add(Fact::BoardAmount { amount, has_files });
+        }
+    }
+
     /// A sound board, as it was handed in.
     fn look_at_board(&mut self, settings: Settings, memory: &[u8]) {
         let length = memory.len();
@@ -234,7 +285,7 @@ impl Seen {
         self.add_if(settings.files == 0, Fact::NoFilesIn(length));
         self.add_if(is_full && length <= SMALL_MEMORY, Fact::FullAndSmall);
         self.add_if(is_full && length == MOST_MEMORY, Fact::FullAndLarge);
-        let touches_end = unused(memory, settings.files) == 0;
+        let touches_end = walked(memory, settings.files) == Some(0);
         self.add_if(is_full && touches_end, Fact::FullToTheEnd);
     }
 
@@ -242,9 +293,12 @@ impl Seen {
     /// memory more or less, or with one file less.
     fn look_at_unsound(&mut self, settings: Settings, memory: &[u8], ran: &Ran) {
         assert_eq!(ran.number, NOT_SOUND);
-        let is_sound_with_more = is_sound(settings, &[memory, &[0]].concat());
+        if walked(memory, settings.files) != Some(settings.unused) {
+            return;
+        }
+        let is_sound_with_more = is_sound_in(settings, &[memory, &[0]].concat());
         let is_sound_with_less = match memory.split_last() {
-            Some((0, less)) => is_sound(settings, less),
+            Some((0, less)) => is_sound_in(settings, less),
             _ => false,
         };
         self.add_if(
@@ -403,7 +457,19 @@ fn is_good_but_for_its_files(mut settings: Settings, memory: &[u8]) -> bool {
     let records: Vec<Record> = files.iter().map(|file| file.record).collect();
     let last = files[MOST_FILES].content.start - RECORD_LENGTH;
     settings.files -= 1;
-    labels_are_distinct(&records) && is_sound(settings, &memory[..last])
+    labels_are_distinct(&records) && is_sound_in(settings, &memory[..last])
+}
+
+/// The settings with this unused amount.
+fn with_amount(settings: Settings, unused: u16) -> Settings {
+    Settings { unused, ..settings }
+}
+
+/// Whether the board would be sound in this memory, with the amount that is
+/// right there.
+fn is_sound_in(settings: Settings, memory: &[u8]) -> bool {
+    walked(memory, settings.files)
+        .is_some_and(|right| is_sound(with_amount(settings, right), memory))
 }
 
 /// Whether a frame of 65 blocks reads well when its last block or its first

@@ -155,7 +155,7 @@ fn functions() {
         let after = block_on(&kit, block).expect("it is done");
         let mut expected = kit.settings.fields();
         expected[place] = value;
-        assert_eq!(after.ran.settings.fields(), expected);
+        assert_eq!(after.ran.settings, kit.settings.with_fields(expected));
         assert_eq!(after.kit.memory, kit.memory);
         assert_eq!(after.reply, b"");
     }

@@ -23,7 +23,7 @@ fn numbers_10_and_11() {
     }
     let made = fresh_in(b'^', 64);
     assert_eq!(made.settings.fields(), [0, 0, 1, 1, 0, 0x53, 0, 0, b'^', 0]);
-    assert_eq!(made.settings, Settings::fresh(b'^'));
+    assert_eq!(made.settings, Settings::fresh(b'^', 64));
 }
 
 /// "join: header texts differ".

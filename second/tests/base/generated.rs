@@ -1,14 +1,17 @@
 //! The random cases: every number that a call can answer occurs, most runs are
 //! on sound, addressed boards, both ends of every bound are reached, and so are
-//! the end of every month and every end of what request 6 reckons.
+//! the end of every month, every kind of wrong unused amount and every end of
+//! what request 6 reckons.
 
 use std::collections::BTreeMap;
+use std::sync::OnceLock;
 
 use crate::common::assert_every_number;
-use crate::coverage::{Fact, Seen};
+use crate::coverage::{wanted_board_amounts, Fact, Seen};
 use crate::reckoned::{wanted as wanted_of_reckoning, Shown};
+use second::cases::amounts;
 use second::cases::any_case;
-use second::cases::boards::{small, sound};
+use second::cases::boards::{small, small_or_empty, sound};
 use second::cases::dates::wrong;
 use second::cases::dice::Dice;
 use second::cases::write_cases;
@@ -17,12 +20,12 @@ use second::stream::{
     next_case, Answer, Case, Next, CALLS, DAYS_CALL, RENEWAL_CALL, RUN_CALL, WEEKDAY_CALL,
 };
 
-const CASES: usize = 6_900;
+const CASES: usize = 7_200;
 
 /// The seed and the number of the cases on which .ci/run compares the two
 /// implementations: `seed` and `count` there.
 const GATE_SEED: u64 = 20_261_115;
-const GATE_COUNT: usize = 6_900;
+const GATE_COUNT: usize = 7_200;
 /// What these cases may take, so that both programs stay quick.
 const GATE_MOST_BYTES: usize = 15_000_000;
 /// The calls on frames and boards, and how often at least each comes up in these
@@ -34,8 +37,8 @@ const GATE_LEAST: [(u8, usize); 5] = [
     (b'F', 835),
     (b'J', 819),
 ];
-/// How often at least these cases show what is looked for in the calls that
-/// reckon with dates.
+/// How often at least these cases show what is looked for in unused amounts and
+/// in the calls that reckon with dates.
 const GATE_SEVERAL: usize = 3;
 /// The same for their numbers, for going back over a year's beginning, for every
 /// weekday and for days of either sign.
@@ -78,14 +81,20 @@ fn every_number_occurs() {
 }
 
 /// Boards that are meant to be sound are, and are not with a date that is
-/// meant not to exist.
+/// meant not to exist or with an unused amount that is meant to be wrong.
 #[test]
 fn boards_are_as_meant() {
     let mut dice = Dice::new(4);
     for _ in 0..1_000 {
-        for board in [sound(&mut dice), small(&mut dice)] {
+        for board in [
+            sound(&mut dice),
+            small(&mut dice),
+            small_or_empty(&mut dice),
+        ] {
             assert!(is_sound(board.settings, &board.memory));
             let settings = wrong(&mut dice).on(board.settings);
+            assert!(!is_sound(settings, &board.memory), "{settings:?}");
+            let settings = amounts::wrong(&mut dice, board.settings, board.memory.len());
             assert!(!is_sound(settings, &board.memory), "{settings:?}");
         }
     }
@@ -132,6 +141,12 @@ fn gate_cases() -> Vec<Case> {
     cases
 }
 
+/// What these cases show, looked at once for all tests.
+fn gate_seen() -> &'static Seen {
+    static SEEN: OnceLock<Seen> = OnceLock::new();
+    SEEN.get_or_init(|| Seen::in_cases(gate_cases().into_iter()))
+}
+
 /// The cases of the gate make every call often enough.
 #[test]
 fn the_gate_makes_every_call() {
@@ -164,7 +179,7 @@ fn least_of(shown: Shown) -> usize {
 /// with dates, most of it several times.
 #[test]
 fn the_gate_reckons_at_every_end() {
-    let seen = Seen::in_cases(gate_cases().into_iter());
+    let seen = gate_seen();
     for shown in wanted_of_reckoning() {
         let count = seen.count(Fact::Reckoned(shown));
         println!("{count} {shown:?}");
@@ -172,6 +187,19 @@ fn the_gate_reckons_at_every_end() {
     for shown in wanted_of_reckoning() {
         let count = seen.count(Fact::Reckoned(shown));
         assert!(count >= least_of(shown), "{count} {shown:?}");
+    }
+}
+
+/// The cases of the gate hold every kind of wrong unused amount, answered by 1,
+/// and right ones, answered by 0, without files and with them.
+#[test]
+fn the_gate_holds_wrong_amounts() {
+    let seen = gate_seen();
+    for fact in wanted_board_amounts() {
+        println!("{} {fact:?}", seen.count(fact));
+    }
+    for fact in wanted_board_amounts() {
+        assert!(seen.count(fact) >= GATE_SEVERAL, "{fact:?}");
     }
 }
 
@@ -185,7 +213,7 @@ fn the_gate_reaches_every_end() {
     let runs = cases.iter().filter(|case| case.call() == RUN_CALL).count();
     let is_older = |case: &&Case| b"NRWFJ".contains(&case.call());
     let older = cases.iter().filter(is_older).count();
-    let seen = Seen::in_cases(cases.into_iter());
+    let seen = gate_seen();
     seen.assert_all();
     let lengths = LEAST_MEMORY..=MOST_MEMORY;
     let sound: usize = lengths.map(|length| seen.count(Fact::Memory(length))).sum();

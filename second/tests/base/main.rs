@@ -1,7 +1,8 @@
-//! The tests of the base of document 01 and of requests 1 and 6 of document 02,
-//! one idea to a file.
+//! The tests of the base of document 01 and of requests 1, 3 and 6 of document
+//! 02, one idea to a file.
 #![forbid(unsafe_code)]
 
+mod amounts;
 mod calendar;
 mod common;
 mod coverage;
@@ -21,4 +22,5 @@ mod source_frames;
 mod stored;
 mod stream;
 mod twelve;
+mod unused;
 mod weekday;

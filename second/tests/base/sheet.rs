@@ -166,6 +166,5 @@ fn demo() {
     let ran = after.ran;
     assert_eq!((ran.number, ran.done, ran.refused), (0, 0, 1));
     assert_eq!((ran.first_place, ran.first_number), (1, 23));
-    let unused = second::files::unused(&after.kit.memory, ran.settings.files);
-    assert_eq!(unused, 0x0200);
+    assert_eq!(ran.settings.unused, 0x0200);
 }

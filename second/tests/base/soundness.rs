@@ -1,7 +1,6 @@
 //! Number 1: each condition of a sound board, at its edges.
 
 use crate::common::*;
-use second::settings::Settings;
 
 /// Whether a run finds the board sound; the frame is good and addressed.
 fn is_sound(kit: &Kit) -> bool {
@@ -13,11 +12,9 @@ fn is_sound(kit: &Kit) -> bool {
 }
 
 fn with_field(place: usize, value: u8) -> Kit {
-    let mut kit = two_files().after(&[b"AAHELLO", b"GSHI"]);
-    let mut fields = kit.settings.fields();
-    fields[place] = value;
-    kit.settings = Settings::from_fields(fields);
-    kit
+    two_files()
+        .after(&[b"AAHELLO", b"GSHI"])
+        .with_field(place, value)
 }
 
 /// Every value of every field.
@@ -49,9 +46,9 @@ fn every_field() {
 
 /// A board's first file with one byte of its record changed.
 fn with_byte(place: usize, value: u8) -> Kit {
-    let mut kit = two_files().after(&[b"AAHELLO", b"GSHI"]);
-    kit.memory[place] = value;
-    kit
+    two_files()
+        .after(&[b"AAHELLO", b"GSHI"])
+        .with_byte(place, value)
 }
 
 /// "F: 20H to 7EH except "0" and "?"." "Labels are distinct."
@@ -111,11 +108,9 @@ fn times() {
 
 /// A board of one file that fills memory but for `rest` bytes.
 fn one_file(record: &[u8; 11], length: usize) -> Kit {
-    let mut kit = Kit::fresh(b'C', 64);
-    kit.memory = vec![0; length];
-    kit.memory[..11].copy_from_slice(record);
-    kit.settings.files = 1;
-    kit
+    let mut memory = vec![0; length];
+    memory[..11].copy_from_slice(record);
+    Kit::fresh(b'C', 64).with_memory(memory).with_files(1)
 }
 
 /// "SIZE: four upper-case hex digits, not 0000 in memory; a STRING's is 1 to
@@ -162,8 +157,7 @@ fn memory_lengths() {
         (32_768, true),
         (32_769, false),
     ] {
-        let mut kit = Kit::fresh(b'C', 64);
-        kit.memory = vec![0; length];
+        let kit = Kit::fresh(b'C', 64).with_memory(vec![0; length]);
         assert_eq!(is_sound(&kit), good, "{length}");
     }
 }
@@ -213,13 +207,14 @@ fn numbers_of_files() {
         .filter(|label| !b"0?".contains(label))
         .collect();
     for (count, good) in [(0, true), (1, true), (63, true), (64, true), (65, false)] {
-        let mut kit = Kit::fresh(b'C', 64);
-        kit.memory = vec![0; 1_000];
-        kit.settings.files = count as u8;
+        let mut memory = vec![0; 1_000];
         for (place, label) in labels.iter().take(count).enumerate() {
             let record = [&[*label], b"AU0001FF00".as_slice()].concat();
-            kit.memory[12 * place..12 * place + 11].copy_from_slice(&record);
+            memory[12 * place..12 * place + 11].copy_from_slice(&record);
         }
+        let kit = Kit::fresh(b'C', 64)
+            .with_memory(memory)
+            .with_files(count as u8);
         assert_eq!(is_sound(&kit), good, "{count}");
     }
     let mut gap = two_files();

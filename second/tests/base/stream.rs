@@ -29,17 +29,23 @@ fn string(bytes: &[u8]) -> Vec<u8> {
     [&length.to_be_bytes(), bytes].concat()
 }
 
-const SETTINGS: [u8; 10] = [0, 0, 1, 1, 0, b'S', 0, 0, b'C', 0];
+/// The settings of a fresh board of 64 bytes.
+const SETTINGS: [u8; 12] = [0, 0, 1, 1, 0, b'S', 0, 0, b'C', 0, 0, 64];
 
 #[test]
 fn a_fresh_board() {
     let case = [b"NC".to_vec(), string(&[0xFF; 64])].concat();
     let zeros = "00".repeat(64);
-    assert_eq!(lines(&case), format!("0 0 0 1 1 0 83 0 0 67 0 {zeros}\n"));
+    let line = format!("0 0 0 1 1 0 83 0 0 67 0 64 {zeros}\n");
+    assert_eq!(lines(&case), line);
+    let case = [b"NC".to_vec(), string(&[0xFF; 300])].concat();
+    let zeros = "00".repeat(300);
+    let line = format!("0 0 0 1 1 0 83 0 0 67 0 300 {zeros}\n");
+    assert_eq!(lines(&case), line);
     let case = [b"NZ".to_vec(), string(b"\xAB")].concat();
-    assert_eq!(lines(&case), "10 0 0 0 0 0 0 0 0 0 0 AB\n");
+    assert_eq!(lines(&case), "10 0 0 0 0 0 0 0 0 0 0 0 AB\n");
     let case = [b"NC".to_vec(), string(b"")].concat();
-    assert_eq!(lines(&case), "11 0 0 0 0 0 0 0 0 0 0 -\n");
+    assert_eq!(lines(&case), "11 0 0 0 0 0 0 0 0 0 0 0 -\n");
 }
 
 #[test]
@@ -59,17 +65,66 @@ fn a_run() {
     let rest = "EE".repeat(129 - 37);
     assert_eq!(
         lines(&case),
-        format!("0 1 1 1 21 37 0 0 1 1 0 83 0 0 67 0 {memory} {nuls}{reply}04{rest}\n")
+        format!("0 1 1 1 21 37 0 0 1 1 0 83 0 0 67 0 64 {memory} {nuls}{reply}04{rest}\n")
     );
     let case = [
         b"R".to_vec(),
-        string(&[24, 1, 2, 3, 4, 5, 6, 7, 8, 9]),
+        string(&[24, 1, 2, 3, 4, 5, 6, 7, 8, 9, 0x12, 0x34]),
         string(b""),
         string(b"\x01"),
         string(frame),
     ]
     .concat();
-    assert_eq!(lines(&case), "1 0 0 0 0 0 24 1 2 3 4 5 6 7 8 9 - 01\n");
+    assert_eq!(lines(&case), "1 0 0 0 0 0 24 1 2 3 4 5 6 7 8 9 4660 - 01\n");
+}
+
+/// The unused amount stands behind the ten, its most significant byte first, and
+/// is printed in decimal.
+#[test]
+fn unused_amounts() {
+    for (bytes, number, amount) in [
+        ([0x01, 0x2C], 0, "300"),
+        ([0x2C, 0x01], 1, "11265"),
+        ([0x01, 0x2B], 1, "299"),
+        ([0x00, 0x00], 1, "0"),
+        ([0x80, 0x00], 1, "32768"),
+        ([0xFF, 0xFF], 1, "65535"),
+    ] {
+        let case = [
+            b"R".to_vec(),
+            string(&[&SETTINGS[..10], &bytes].concat()),
+            string(&[0; 300]),
+            string(&[0xEE; 364]),
+            string(b"\0\0\0\0\0\x01Z00\x02X\x04"),
+        ]
+        .concat();
+        let blocks = if number == 0 { "0 1 1 21" } else { "0 0 0 0" };
+        let (memory, reply) = ("00".repeat(300), "EE".repeat(364));
+        let settings = format!("0 0 1 1 0 83 0 0 67 0 {amount}");
+        assert_eq!(
+            lines(&case),
+            format!("{number} {blocks} 0 {settings} {memory} {reply}\n")
+        );
+    }
+}
+
+/// "settings of another length": the ten alone too.
+#[test]
+fn settings_of_another_length() {
+    for length in (0..=200).filter(|&length| length != 12) {
+        let mut settings = SETTINGS.to_vec();
+        settings.resize(length, 0);
+        let case = [
+            b"R".to_vec(),
+            string(&settings),
+            string(&[0; 64]),
+            string(&[0; 128]),
+            string(b""),
+        ]
+        .concat();
+        let expected = ("bad case\n".to_string(), Ended::BadCase);
+        assert_eq!(replayed(&case), expected, "{length}");
+    }
 }
 
 #[test]
@@ -170,9 +225,9 @@ fn bad_cases_end_the_stream() {
     let good_line = "15 0 -\n";
     assert_eq!(lines(b""), "");
     assert_eq!(lines(&good), good_line);
-    let nine = [
+    let eleven = [
         b"R".to_vec(),
-        string(&SETTINGS[..9]),
+        string(&SETTINGS[..11]),
         string(b""),
         string(b""),
         string(b""),
@@ -190,7 +245,7 @@ fn bad_cases_end_the_stream() {
         b"F\x01\0\0\0",
         b"W\x01\0\0A\0\0",
         b"J\x01\0\0\0\0",
-        &nine,
+        &eleven,
     ] {
         let stream = [&good, bad].concat();
         let expected = (format!("{good_line}bad case\n"), Ended::BadCase);
@@ -241,7 +296,10 @@ fn what_is_encoded_is_read_again() {
             memory: text(300),
         },
         Case::Run {
-            settings: Settings::from_fields([1, 2, 3, 4, 5, 6, 7, 8, 9, 10]),
+            settings: Settings {
+                unused: 0x0B0C,
+                ..Settings::default().with_fields([1, 2, 3, 4, 5, 6, 7, 8, 9, 10])
+            },
             memory: text(256),
             reply: text(1),
             frame: text(0),

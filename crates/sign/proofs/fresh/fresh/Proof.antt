@@ -23,6 +23,9 @@ returns-2 c = search fresh-boards
 zero-at-requires : tie.Need-zero-at-requires
 zero-at-requires c κs = search fresh-boards
 
+cast-made : tie.Need-cast-made
+cast-made c = search fresh-boards
+
 made-requires : tie.Need-made-requires
 made-requires c κs = search fresh-boards
 
@@ -43,6 +46,7 @@ fresh-spec =
     unmade-requires-2
     returns-2
     zero-at-requires
+    cast-made
     made-requires
     same-length
     returns-3)

@@ -18,6 +18,9 @@ set-date-requires c κs = search labelled
 set-address-requires : tie.Need-set-address-requires
 set-address-requires c κs = search labelled
 
+quiet-requires : tie.Need-quiet-requires
+quiet-requires c κs = search labelled
+
 returns : tie.Need-returns
 unfolding setBy
 returns c = search labelled
@@ -50,6 +53,7 @@ set-by-spec =
     set-format-requires
     set-date-requires
     set-address-requires
+    quiet-requires
     returns
     returns-2
     returns-3

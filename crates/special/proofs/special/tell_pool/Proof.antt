@@ -2,15 +2,6 @@ use Rattle.special.proofs.Telling.{pool}
 use Rattle.special.proofs.special.tell_pool.Statement.{statement}
 use Rattle.special.proofs.special.tell_pool.Tie as tie
 
-cast-used : tie.Need-cast-used
-cast-used c = search pool
-
-used-requires : tie.Need-used-requires
-used-requires c κs = search pool
-
-sub-unused : tie.Need-sub-unused
-sub-unused c = search pool
-
 cast-put-four : tie.Need-cast-put-four
 cast-put-four c = search pool
 
@@ -29,9 +20,6 @@ copy-at-requires c κs = search pool
 add-put-four : tie.Need-add-put-four
 add-put-four c = search pool
 
-cast-put-four-2 : tie.Need-cast-put-four-2
-cast-put-four-2 c = search pool
-
 put-four-requires-2 : tie.Need-put-four-requires-2
 put-four-requires-2 c κs = search pool
 
@@ -45,16 +33,12 @@ pub tell-pool-spec : {M : Type 1} → statement M
 tell-pool-spec =
     tie.close
     (tie.spec
-    cast-used
-    used-requires
-    sub-unused
     cast-put-four
     put-four-requires
     add-copy-at
     slice-aggregate-copy-at
     copy-at-requires
     add-put-four
-    cast-put-four-2
     put-four-requires-2
     same-length
     returns)

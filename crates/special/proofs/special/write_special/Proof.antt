@@ -41,9 +41,6 @@ part-set-by-end c = search writing
 set-by-requires : tie.Need-set-by-requires
 set-by-requires c κs = search writing
 
-change-requires : tie.Need-change-requires
-change-requires c κs = search writing
-
 returns-3 : tie.Need-returns-3
 returns-3 c = search writing
 
@@ -64,5 +61,4 @@ write-special-spec =
     part-set-by-start
     part-set-by-end
     set-by-requires
-    change-requires
     returns-3)
