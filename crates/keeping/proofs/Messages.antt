@@ -13,9 +13,9 @@ use Rattle.octets.specs.Bytes.{isPlain}
 use Rattle.octets.proofs.Tests.{choice, by-test, split}
 use Rattle.octets.proofs.Buffers.{length-zeros}
 use Rattle.board.specs.declared.Found.the-variants.{At, Nothing}
-use Rattle.board.specs.Files.{File, sizeOf, fileAt, filesOf, used, unused, labels, distinct, find, isAt}
+use Rattle.board.specs.Files.{File, sizeOf, fileAt, filesOf, unused, labels, distinct, find, isAt}
 use Rattle.board.specs.Soundness.{isContent, holdsFiles, soundMemory}
-use Rattle.board.proofs.Layouts.{layout, AllValid, past, parse, holds, count-files, print, valid, past-zero}
+use Rattle.board.proofs.Layouts.{layout, AllValid, past, parse, layout-unused, holds, count-files, print, valid, past-zero, past-unused}
 use Rattle.board.proofs.Contents.{plain-content}
 use Rattle.board.proofs.SoundParts.{parts, whole}
 use Rattle.commands.specs.Commands.{holding}
@@ -111,16 +111,6 @@ module _ (l t : ℕ) (m : List ℕ) (size : ℕ) (g : length m ≡ size) where
       ))
       (λ q. (v .0, put-valid fs (at + 11 + length (f .body)) start (v .1) b (rw q at h)))
 
-  put-used : (fs : List File) (at start : ℕ) → find l t fs at ≡ At start size → used (putIn fs l t m) ≡ used fs
-  unfolding find putIn used
-  put-used [] at start h = refl
-  put-used (f ∷ fs) at start h =
-      choice (λ (x : List File). used x ≡ 11 + length (f .body) + used fs) (isAt l t (f .head))
-      (λ q.
-      let k : At (at + 11) (length (f .body)) ≡ At start size = rw q at h in
-      rw (g, found-size k))
-      (λ q. rw (put-used fs (at + 11 + length (f .body)) start (rw q at h)))
-
 -- ---- a message in memory
 
 -- a message that is put where a file was found, in a memory that holds files as it has to
@@ -151,6 +141,12 @@ module _ (n : ℕ) (m : List ℕ) (ok : holdsFiles n m ≡ true) (l t start size
   pub holding-files : filesOf n (holding m start size msg) ≡ putIn (filesOf n m) l t (content size msg)
   holding-files =
       ap (filesOf n) new-image ∙ ap (λ (k : ℕ). filesOf k (layout files (past n m))) new-count ∙ parse files (past n m) new-valid
+
+  -- what no file takes stays
+  pub holding-unused : unused n (holding m start size msg) ≡ unused n m
+  holding-unused =
+      ap (unused n) new-image ∙ ap (λ (k : ℕ). unused k (layout files (past n m))) new-count
+      ∙ layout-unused files (past n m) new-valid ∙ sym (past-unused n m ok)
 
   -- memory holds files as it has to
   pub holding-holds : holdsFiles n (holding m start size msg) ≡ true
@@ -189,19 +185,7 @@ holding-length l t n m start (suc size) msg e h =
     let g = find-room l t n m 0 start (suc size) e (omega arith) .0 in
     simp (length-append, length-take, length-drop, length-zeros) (omega arith)
 
--- ---- the theorems
-
--- a message leaves what no file takes
-pub holding-unused : (n : ℕ) (m : List ℕ) → holdsFiles n m ≡ true →
-    (l t start size : ℕ) → find l t (filesOf n m) 0 ≡ At start size →
-    (msg : List ℕ) → length msg ≤ size → all isPlain msg ≡ true → unused n (holding m start size msg) ≡ unused n m
-unfolding unused
-holding-unused n m s l t start size e msg h p =
-    rw (
-      holding-length l t n m start size msg e h,
-      holding-files n m s l t start size e msg h p,
-      put-used l t (content size msg) size (content-length n m s l t start size e msg h p) (filesOf n m) 0 start e,
-    )
+-- ---- the theorem
 
 -- a message leaves a sound memory sound
 pub holding-sound : (n : ℕ) (m : List ℕ) → soundMemory n m ≡ true →

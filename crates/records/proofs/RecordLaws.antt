@@ -12,12 +12,12 @@ use Rattle.octets.specs.Buffer.{zeros}
 use Rattle.octets.proofs.Tests.{by-test, never, split}
 use Rattle.octets.proofs.Digits.{isHex4-inHex4, hex4-inHex4}
 use Rattle.octets.proofs.Buffers.{eleven, length-zeros}
-use Rattle.board.specs.Files.{STRING, FILES, File, sizeOf, filesOf, used, unused, labels, distinct}
+use Rattle.board.specs.Files.{STRING, FILES, File, sizeOf, filesOf, unused, labels, distinct}
 use Rattle.board.specs.Soundness.{isLabel, isKind, isProtection, isSize, isStartCode, isStopCode, isCodes, isRecord}
 use Rattle.board.specs.Soundness.{holdsFiles, isMemory, soundMemory}
-use Rattle.board.proofs.Layouts.{layout, AllValid, parse, holds}
+use Rattle.board.proofs.Layouts.{layout, AllValid, parse, layout-unused, holds}
 use Rattle.board.proofs.Contents.{zeros-nul, zeros-content}
-use Rattle.board.proofs.SoundParts.{whole}
+use Rattle.board.proofs.SoundParts.{memory-most, whole}
 use Rattle.records.specs.Records.{isRecords, recordsIn, labelsIn, needed, neededBy, sizeIn, stored, laid}
 
 -- ---- n records, as they have to be
@@ -211,25 +211,13 @@ new-length (suc n) room d r h =
     rw (length-append, length-append, stored-length d (r .0) v, length-zeros, i)
     (omega (arith, g .inside))
 
-new-used : (n room : ℕ) (d : List ℕ) → Records n d → needed n d ≤ room → used (newOf n room d) + roomAfter n room d ≡ room
-unfolding newOf used roomAfter
-new-used zero room d r h = omega arith
-new-used (suc n) room d r h =
-    let g = gets n room d r h in
-    let v = sizeIn room d in
-    rw length-zeros (omega (arith, g .inside, new-used n (room - (11 + v)) (drop 11 d) (r .2) (g .more)))
-
--- the files that are found in the new memory
-new-files : (n room : ℕ) (d : List ℕ) → Records n d → needed n d ≤ room → room ≤ 32768 → filesOf n (laid n room d) ≡ newOf n room d
-new-files n room d r h l =
-    ap (filesOf n) (laid-layout n room d)
-    ∙ ap (λ (k : ℕ). filesOf k (layout (newOf n room d) (zeros (roomAfter n room d)))) (new-count n room d)
-    ∙ parse (newOf n room d) (zeros (roomAfter n room d)) (new-valid n room d r h l)
-
 -- what they leave is what no file takes
 pub room-unused : (n room : ℕ) (d : List ℕ) → Records n d → needed n d ≤ room → room ≤ 32768 → roomAfter n room d ≡ unused n (laid n room d)
-unfolding unused
-room-unused n room d r h l = rw (new-files n room d r h l, new-length n room d r h) (omega (arith, new-used n room d r h))
+room-unused n room d r h l =
+    let fs = newOf n room d in
+    let y = zeros (roomAfter n room d) in
+    sym (ap (unused n) (laid-layout n room d) ∙ ap (λ (k : ℕ). unused k (layout fs y)) (new-count n room d)
+    ∙ layout-unused fs y (new-valid n room d r h l) ∙ length-zeros (roomAfter n room d))
 
 -- ---- the theorems, from what `configure` tests
 
@@ -251,11 +239,8 @@ module _ (d : List ℕ) (ok : isRecords FILES d ≡ true) (room : ℕ) (h : need
     abbrev rest : List ℕ
     rest = zeros (roomAfter n room d)
 
-    short : room ≤ 32768
-    short = leb-true room 32768 (split (64 ≤? room) l .1)
-
     files-valid : AllValid files
-    files-valid = new-valid n room d listed h short
+    files-valid = new-valid n room d listed h (memory-most room l)
 
     -- the new memory holds as many files as there are records, as it has to
     pub laid-holds : holdsFiles (recordsIn d) (laid (recordsIn d) room d) ≡ true
@@ -265,7 +250,9 @@ module _ (d : List ℕ) (ok : isRecords FILES d ≡ true) (room : ℕ) (h : need
 
     -- their labels are the records'
     pub laid-labels : labels (filesOf (recordsIn d) (laid (recordsIn d) room d)) ≡ labelsIn (recordsIn d) d
-    laid-labels = ap labels (new-files n room d listed h short) ∙ new-labels n room d listed
+    laid-labels =
+        let p = ap (λ (k : ℕ). filesOf k (layout files rest)) (new-count n room d) ∙ parse files rest files-valid in
+        ap labels (ap (filesOf n) (laid-layout n room d) ∙ p) ∙ new-labels n room d listed
 
     -- so the new memory is sound where the labels are distinct
     pub laid-sound : distinct (labelsIn (recordsIn d) d) ≡ true → soundMemory (recordsIn d) (laid (recordsIn d) room d) ≡ true

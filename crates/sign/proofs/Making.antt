@@ -7,14 +7,13 @@ use native.Mathlib.Omega.{arith}
 use mir.Syntax.{w16}
 use mir.Val.{Fits}
 use borrow.Author.Needs.{needs}
-use borrow.Author.Tests.{leb-true, not-false}
+use borrow.Author.Tests.{not-false}
 use lib.ListN.{length, drop-of-length-le}
-use Rattle.octets.specs.Choice.{_≤?_}
 use Rattle.octets.specs.Buffer.{zeros, splice}
-use Rattle.octets.proofs.Tests.{split}
 use Rattle.octets.proofs.Buffers.{length-zeros}
 use Rattle.header.specs.Addressing.{isOwnType}
 use Rattle.board.specs.Soundness.{isMemory}
+use Rattle.board.proofs.SoundParts.{memory-most}
 use Rattle.sign.specs.Fresh.{making, madeAs, allZero, freshSettings, fresh}
 use Rattle.sign.specs.declared.Made.{Made}
 
@@ -27,7 +26,7 @@ splice-all m n e =
 
 -- memory's length is told in two bytes
 pub fresh-fits : (n : ℕ) (k : Bool) → k ≡ isMemory n → not k ≡ false → Fits w16 n
-fresh-fits n k f z = record { fits = omega (arith, leb-true n 32768 (split (64 ≤? n) (sym f ∙ not-false k z) .1)) }
+fresh-fits n k f z = record { fits = omega (arith, memory-most n (sym f ∙ not-false k z)) }
 
 module _ (own : ℕ) (m : List ℕ) (b : Bool) (e : b ≡ isOwnType own) where
   -- 10

@@ -20,7 +20,7 @@ use Rattle.sign.specs.Packing.{setsNoAddress, next}
 use Rattle.sign.specs.declared.Tally.{Tally}
 use Rattle.sign.proofs.Adding.{plus, together, Packed}
 use Rattle.sign.proofs.RunLaws.{upon, counts-join, none-zero}
-use Rattle.sign.proofs.Steady.{NoReads, run-passed, run-steady}
+use Rattle.sign.proofs.Steady.{NoReads, run-passed, run-steady, run-unsound}
 
 -- ---- a read is only the last block: so there is none before others
 
@@ -39,10 +39,6 @@ none-before x (b ∷ bs) cs n e =
 -- ---- a run, case by case
 
 module _ (s : Settings) (m o f : List ℕ) where
-  run-unsound : sound s m ≡ false → run s m o f ≡ untouched 1 s m o
-  unfolding run
-  run-unsound e = rw e
-
   module _ (e : sound s m ≡ true) where
     run-short : (length o <? length m + 64) ≡ true → run s m o f ≡ untouched 2 s m o
     unfolding run

@@ -128,6 +128,11 @@ run-steady s m o f =
     (λ e. choice (Steady s m o (read f)) (length o <? length m + 64) (λ g. untouched-steady s m o (read f) 2)
     (λ g. frame-steady s m o f (ltb-false (length o) (length m + 64) g) (read f) refl))
 
+-- 1 "board not sound"
+pub run-unsound : (s : Settings) (m o f : List ℕ) → sound s m ≡ false → run s m o f ≡ untouched 1 s m o
+unfolding run
+run-unsound s m o f e = rw e
+
 -- a run leaves a sound board sound
 pub run-sound : (s : Settings) (m o f : List ℕ) → sound s m ≡ true →
     sound (run s m o f .answer .settings) (run s m o f .memory) ≡ true
@@ -163,11 +168,6 @@ fresh-sound t m =
 
 -- ---- the unused amount
 
--- 1 "board not sound"
-not-sound : (s : Settings) (m o f : List ℕ) → sound s m ≡ false → run s m o f ≡ untouched 1 s m o
-unfolding run
-not-sound s m o f e = rw e
-
 -- request 3, "It always equals the memory length less, for each file, its record and its counted size.": after any run that is not
 -- refused because its board is not sound
 pub run-unused : (s : Settings) (m o f : List ℕ) → (run s m o f .answer .number ≡ 1 → ⊥) →
@@ -175,7 +175,7 @@ pub run-unused : (s : Settings) (m o f : List ℕ) → (run s m o f .answer .num
 run-unused s m o f n =
     by-test (sound s m)
     (λ e. sound-unused (run s m o f .answer .settings) (run s m o f .memory) (run-sound s m o f e))
-    (λ e. absurd (n (ap (λ (x : Outcome). x .answer .number) (not-sound s m o f e))))
+    (λ e. absurd (n (ap (λ (x : Outcome). x .answer .number) (run-unsound s m o f e))))
 
 -- and after any fresh board that was made
 pub fresh-unused : (t : ℕ) (m : List ℕ) → fresh t m .answer .number ≡ 0 →
@@ -184,4 +184,4 @@ fresh-unused t m e = sound-unused (fresh t m .answer .settings) (fresh t m .memo
 
 -- "1 when the stored amount is wrong": whatever else the board is, and whatever the frame
 pub run-wrong : (s : Settings) (m o f : List ℕ) → (s .unused ≡ unused (s .files) m → ⊥) → run s m o f ≡ untouched 1 s m o
-run-wrong s m o f n = by-test (sound s m) (λ e. absurd (n (sound-unused s m e))) (λ e. not-sound s m o f e)
+run-wrong s m o f n = by-test (sound s m) (λ e. absurd (n (sound-unused s m e))) (λ e. run-unsound s m o f e)
