@@ -7,7 +7,7 @@
  * - nothing else writes the buffers while the call runs, and the stack has room for it (PAGOZKIN_STACK_..).
  * Nothing more: frames, boards, numbers and lengths may be anything, and each call does its own checking.
  * No call keeps anything for the next one or takes memory besides the stack, so calls on different buffers may run at one time.
- * The library calls memset and nothing else. */
+ * The library calls memcpy and memset and nothing else. */
 #ifndef PAGOZKIN_H
 #define PAGOZKIN_H
 
@@ -20,7 +20,7 @@ extern "C" {
 
 /* The version of header and library: a changed struct, number or call changes the first part, an added one the second part;
  * where only what a call answers has changed, the third. */
-#define PAGOZKIN_VERSION_MAJOR 2
+#define PAGOZKIN_VERSION_MAJOR 3
 #define PAGOZKIN_VERSION_MINOR 0
 #define PAGOZKIN_VERSION_PATCH 0
 
@@ -41,6 +41,9 @@ extern "C" {
 #define PAGOZKIN_MOST_MEMORY 32768    /* the same */
 #define PAGOZKIN_MOST_FILES 64        /* "It holds 0 to 64 files" */
 #define PAGOZKIN_RECORD 11            /* bytes of memory that a file takes besides its SIZE: "an 11-byte record" */
+#define PAGOZKIN_FIRST_LABEL 0x20     /* "for each label 20H to 7EH": the first of them */
+#define PAGOZKIN_PLACES 95            /* and how many they are */
+#define PAGOZKIN_NOWHERE 0xFFFF       /* the place of a label that no file has: "that there is none" */
 #define PAGOZKIN_REPLY_ROOM 64        /* what a reply buffer needs beyond the memory's length: "memory plus 64" */
 #define PAGOZKIN_MOST_RESULT 24576    /* bytes of a result, in any form: "8,192 translated bytes", each at most three in print */
 
@@ -112,7 +115,9 @@ enum {
  * hour, minute, month, day and year here, these alone and so that time and date exist; else the next run answers 1.
  * Settings that were kept by version 1.0.0 may hold a date such as 31 February. Every run answers 1 then, one that would set the date
  * too: ask pagozkin_is_sound at the start, and write a date that exists here. Settings of any version 1 have no unused amount: write
- * memory's length less, for each file, PAGOZKIN_RECORD and its SIZE. From then on the library keeps it true: leave it alone. */
+ * memory's length less, for each file, PAGOZKIN_RECORD and its SIZE. Settings of versions 1 and 2 have no places: write
+ * PAGOZKIN_NOWHERE to all of them, and then for each file, at its label less PAGOZKIN_FIRST_LABEL, where its record begins in memory.
+ * From then on the library keeps amount and places true: leave them alone. */
 typedef struct pagozkin_settings {
     uint8_t hour;    /* 0 to 23 */
     uint8_t minute;  /* 0 to 59 */
@@ -125,6 +130,8 @@ typedef struct pagozkin_settings {
     uint8_t own;     /* own type, "one of Table 4's codes" */
     uint8_t files;   /* "0 to 64 files" */
     uint16_t unused; /* "the memory length less, for each file, its record and its counted size": 0 to 32,768; else 1 */
+    /* "for each label 20H to 7EH, where its record begins", or PAGOZKIN_NOWHERE; else 1 */
+    uint16_t places[PAGOZKIN_PLACES];
 } pagozkin_settings;
 
 /* "A run returns a number, blocks done, blocks refused, .." */
@@ -206,10 +213,11 @@ typedef struct pagozkin_days_apart {
     int32_t days;   /* "negative when the second is earlier": -36,524 to 36,524 */
 } pagozkin_days_apart;
 
-/* Stack in bytes that a call needs, those of the C library's memset included, as libport.a stands (x86-64). */
-#define PAGOZKIN_STACK_FRESH 512
-#define PAGOZKIN_STACK_IS_SOUND 512
-#define PAGOZKIN_STACK_RUN 9728
+/* Stack in bytes that a call needs, the settings that are handed over by value and the C library's memcpy and memset included, as
+ * libport.a stands (x86-64). */
+#define PAGOZKIN_STACK_FRESH 768
+#define PAGOZKIN_STACK_IS_SOUND 768
+#define PAGOZKIN_STACK_RUN 12800
 #define PAGOZKIN_STACK_WRITE 512
 #define PAGOZKIN_STACK_REFORM 9216
 #define PAGOZKIN_STACK_JOIN 17920

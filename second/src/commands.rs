@@ -67,5 +67,5 @@ fn read_file(board: &Board<'_>, kind: Kind, data: &[u8]) -> Result<Vec<u8>, Numb
 
 /// "no file of that label and type".
 fn file_of(board: &Board<'_>, kind: Kind, label: u8) -> Result<File, Number> {
-    find(board.memory, board.settings.files, label, kind).ok_or(NO_FILE)
+    find(board.memory, &board.settings.index, label, kind).ok_or(NO_FILE)
 }

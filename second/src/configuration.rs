@@ -3,16 +3,18 @@
 use crate::bytes::NUL;
 use crate::files::MOST_FILES;
 use crate::hex::frame_digit;
+use crate::index::{Begin, Index};
 use crate::numbers::{Number, BAD_LIST, LABEL_TWICE, NO_ROOM};
 use crate::record::{labels_are_distinct, Kind, Record, RECORD_LENGTH};
 use crate::unused::unused;
 
-/// What the settings are told of the new files: how many there are and, by
-/// request 3, the memory that they leave unused.
+/// What the settings are told of the new files: how many there are, by request 3
+/// the memory that they leave unused, and by request 7 where they begin.
 #[derive(Clone, Copy, Debug, PartialEq, Eq)]
 pub struct Configured {
     pub files: u8,
     pub unused: u16,
+    pub index: Index,
 }
 
 /// Replaces all files. "faults in a "$" list are 25 to 27, never 22".
@@ -21,8 +23,12 @@ pub fn configure(list: &[u8], memory: &mut [u8]) -> Result<Configured, Number> {
     let files = u8::try_from(records.len()).map_err(|_| BAD_LIST)?;
     check_labels(&records)?;
     let unused = give_room(&mut records, memory.len())?;
-    lay_out(&records, memory);
-    Ok(Configured { files, unused })
+    let index = Index::of(&lay_out(&records, memory));
+    Ok(Configured {
+        files,
+        unused,
+        index,
+    })
 }
 
 /// ""$": bad record, count or length" (25).
@@ -77,14 +83,21 @@ fn rest_size(remains: u16) -> Result<u16, Number> {
     Ok(remains)
 }
 
-/// "replaces all files, contents empty"; "Unused memory stays unused."
-fn lay_out(records: &[Record], memory: &mut [u8]) {
+/// "replaces all files, contents empty"; "Unused memory stays unused." Tells
+/// where each file begins.
+fn lay_out(records: &[Record], memory: &mut [u8]) -> Vec<Begin> {
     memory.fill(NUL);
+    let mut begins = Vec::new();
     let mut place = 0;
     for record in records {
         if let Some(bytes) = memory.get_mut(place..place + RECORD_LENGTH) {
             bytes.copy_from_slice(&record.to_bytes());
         }
+        begins.push(Begin {
+            label: record.label,
+            place,
+        });
         place += record.whole_length();
     }
+    begins
 }

@@ -5,16 +5,28 @@ use std::ops::Range;
 
 use crate::bytes::NUL;
 use crate::hex::memory_digit;
+use crate::index::{Begin, Index};
 use crate::record::{Kind, Record, RECORD_LENGTH};
 
 /// "0 to 64 files".
 pub const MOST_FILES: usize = 64;
 
-/// A file's record and where its content stands.
+/// A file's record, where that begins and where the content stands.
 #[derive(Clone, Debug, PartialEq, Eq)]
 pub struct File {
     pub record: Record,
+    pub place: usize,
     pub content: Range<usize>,
+}
+
+impl File {
+    /// The label and the place of its record.
+    pub fn begin(&self) -> Begin {
+        Begin {
+            label: self.record.label,
+            place: self.place,
+        }
+    }
 }
 
 /// The first files of memory and the place after the last of them, or none
@@ -38,15 +50,19 @@ fn file_at(memory: &[u8], place: usize) -> Option<File> {
     let record = Record::parse(<[u8; RECORD_LENGTH]>::try_from(bytes).ok()?, memory_digit)?;
     let content = start..start + record.content_length();
     let is_there = record.size != 0 && content.end <= memory.len();
-    is_there.then_some(File { record, content })
+    is_there.then_some(File {
+        record,
+        place,
+        content,
+    })
 }
 
-/// The file of that label and type on a sound board.
-pub fn find(memory: &[u8], count: u8, label: u8, kind: Kind) -> Option<File> {
-    let (files, _) = walk(memory, count)?;
-    files
-        .into_iter()
-        .find(|file| file.record.label == label && file.record.kind == kind)
+/// The file of that label and type on a sound board. Request 7: the label's entry
+/// tells where its record begins, so that nothing "walks the records", and the
+/// type is looked at there.
+pub fn find(memory: &[u8], index: &Index, label: u8, kind: Kind) -> Option<File> {
+    let file = file_at(memory, index.place_of(label)?)?;
+    (file.record.kind == kind).then_some(file)
 }
 
 /// "The reply carries the content without its zeros."

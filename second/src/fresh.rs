@@ -33,7 +33,8 @@ pub fn fresh(own_type: u8, memory: &mut [u8]) -> Made {
 }
 
 /// "fresh board: wrong type; wrong memory length". By request 3 they tell the
-/// unused amount too: all of memory, there being no files.
+/// unused amount too: all of memory, there being no files, of which by request 7
+/// no label has one.
 fn settings(own_type: u8, memory_length: usize) -> Result<Settings, Number> {
     if !is_own_type(own_type) {
         return Err(WRONG_TYPE);

@@ -1,16 +1,16 @@
 //! A second implementation of the sign board of document 01 and of requests 1,
-//! 3 and 6 of document 02, written from these documents alone, to be compared
+//! 3, 6 and 7 of document 02, written from these documents alone, to be compared
 //! case by case with another one.
 //!
 //! Days and months, by themselves: [`dates`], [`renewal`], [`weekday`],
 //! [`days_between`].
 //! The frame layer: [`translation`], [`lead`], [`header`], [`body`], [`sum`],
 //! [`frame`], [`forms`], [`writing`], [`reforming`], [`joining`].
-//! The sign layer: [`settings`], [`record`], [`files`], [`unused`],
+//! The sign layer: [`settings`], [`record`], [`files`], [`unused`], [`index`],
 //! [`soundness`], [`configuration`], [`special`], [`commands`], [`reply`],
 //! [`run`], [`fresh`].
 //! The comparison: [`stream`], [`cases`], [`source`], [`stored`],
-//! [`right_amount`], [`twelve`].
+//! [`right_amount`], [`right_index`], [`twelve`].
 #![forbid(unsafe_code)]
 
 pub mod body;
@@ -26,6 +26,7 @@ pub mod frame;
 pub mod fresh;
 pub mod header;
 pub mod hex;
+pub mod index;
 pub mod joining;
 pub mod lead;
 pub mod numbers;
@@ -34,6 +35,7 @@ pub mod reforming;
 pub mod renewal;
 pub mod reply;
 pub mod right_amount;
+pub mod right_index;
 pub mod run;
 pub mod settings;
 pub mod soundness;

@@ -24,6 +24,16 @@ pub enum Kind {
     String,
 }
 
+impl Kind {
+    /// The type that this is not.
+    pub fn other(self) -> Kind {
+        match self {
+            Kind::Text => Kind::String,
+            Kind::String => Kind::Text,
+        }
+    }
+}
+
 /// A record whose parts are each good; its SIZE may still be 0000.
 #[derive(Clone, Copy, Debug, PartialEq, Eq)]
 pub struct Record {

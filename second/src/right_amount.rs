@@ -15,9 +15,14 @@ const SIZE_DIGITS: usize = 4;
 pub fn right_amount(memory: &[u8], files: u8) -> Option<u16> {
     let mut rest = memory;
     for _ in 0..files {
-        rest = rest.get(RECORD_LENGTH + size(rest)?..)?;
+        rest = after_file(rest)?;
     }
     u16::try_from(rest.len()).ok()
+}
+
+/// What follows the file with whose record these bytes begin.
+pub fn after_file(bytes: &[u8]) -> Option<&[u8]> {
+    bytes.get(RECORD_LENGTH + size(bytes)?..)
 }
 
 /// The SIZE of the record with which these bytes begin.

@@ -1,9 +1,10 @@
 //! "Settings travel as one record, handed in and handed back: time, date, time
 //! format, speaker, serial address, own type, number of files." Request 3: "Keep
-//! the unused amount in the settings record".
+//! the unused amount in the settings record". Request 7 adds the index.
 
 use crate::dates::{exists, FIRST_YEAR};
 use crate::hex::{byte_value, frame_digit};
+use crate::index::Index;
 
 pub const STANDARD_FORMAT: u8 = b'S';
 pub const MILITARY_FORMAT: u8 = b'M';
@@ -14,7 +15,8 @@ pub const SPEAKER_ON: u8 = 1;
 const ON_TEXT: [u8; 2] = *b"00";
 const OFF_TEXT: [u8; 2] = *b"FF";
 
-/// How many fields of one byte the record has: all but the unused amount.
+/// How many fields of one byte the record has: all but the unused amount
+/// and the index.
 pub const FIELDS: usize = 10;
 
 /// The record, a number to a field, so that a field can be out of range.
@@ -31,11 +33,12 @@ pub struct Settings {
     pub own_type: u8,
     pub files: u8,
     pub unused: u16,
+    pub index: Index,
 }
 
 impl Settings {
     /// "A fresh board has 00:00, 01 01 00, format S, speaker off, address 00,
-    /// no files", and so much unused memory.
+    /// no files", so that the index has no place, and so much unused memory.
     pub fn fresh(own_type: u8, unused: u16) -> Settings {
         Settings {
             hour: 0,
@@ -49,6 +52,7 @@ impl Settings {
             own_type,
             files: 0,
             unused,
+            index: Index::empty(),
         }
     }
 

@@ -1,11 +1,12 @@
 //! "A board is sound when all this holds and time, date, speaker, format, type
 //! are in range. Any address 00 to FF is in range." Request 3: "1 when the stored
-//! amount is wrong."
+//! amount is wrong." Request 7: "1 when it is wrong."
 
 use crate::bytes::{LOWEST_DATA, NUL};
 use crate::files::{walk, File, MOST_FILES};
 use crate::header::is_own_type;
-use crate::record::{labels_are_distinct, Record};
+use crate::index::Begin;
+use crate::record::Record;
 use crate::settings::{is_date, is_format, is_speaker, is_time, Settings};
 use crate::unused::unused;
 
@@ -36,17 +37,19 @@ fn settings_are_in_range(settings: Settings) -> bool {
         && usize::from(settings.files) <= MOST_FILES
 }
 
-/// "in order without gaps"; "Labels are distinct"; "Memory after the last file
-/// is 00H."; and the stored amount is what the files leave.
+/// "in order without gaps"; "Memory after the last file is 00H."; the stored
+/// amount is what the files leave, and the index is true of them. That says too
+/// that "Labels are distinct".
 fn files_are_sound(memory: &[u8], settings: Settings) -> bool {
     let Some((files, end)) = walk(memory, settings.files) else {
         return false;
     };
     let records: Vec<Record> = files.iter().map(|file| file.record).collect();
-    labels_are_distinct(&records)
-        && files.iter().all(|file| content_is_sound(memory, file))
+    let begins: Vec<Begin> = files.iter().map(File::begin).collect();
+    files.iter().all(|file| content_is_sound(memory, file))
         && all_zero(memory.get(end..).unwrap_or_default())
         && unused(memory.len(), &records) == Some(settings.unused)
+        && settings.index.is_true_of(&begins)
 }
 
 /// "Content is zero or more bytes 05H to FFH, then 00H up to SIZE."

@@ -23,10 +23,15 @@ pub fn set(board: &mut Board<'_>, data: &[u8]) -> Result<(), Number> {
         DATE => settings.with_date(rest).ok_or(MALFORMED)?,
         SERIAL_ADDRESS => settings.with_address(rest).ok_or(MALFORMED)?,
         CONFIGURATION => {
-            let Configured { files, unused } = configure(rest, board.memory)?;
+            let Configured {
+                files,
+                unused,
+                index,
+            } = configure(rest, board.memory)?;
             Settings {
                 files,
                 unused,
+                index,
                 ..settings
             }
         }

@@ -7,6 +7,7 @@ use crate::days_between::{days_between, Between};
 use crate::forms::Written;
 use crate::fresh::{fresh, Made};
 use crate::hex::byte_digits;
+use crate::index::{Index, LABELS};
 use crate::joining::join;
 use crate::reforming::reform;
 use crate::renewal::{renewal, Renewed};
@@ -38,9 +39,13 @@ pub const CALLS: [u8; 8] = [
 /// The line for a case that cannot be read.
 const BAD_CASE: &[u8] = b"bad case\n";
 
+/// The bytes of the index: "two bytes each, FFFFH where there is none: 190
+/// bytes".
+const INDEX_LENGTH: usize = 2 * LABELS;
+
 /// The bytes of a settings string: those of one byte a field, then the unused
-/// amount in two.
-const SETTINGS_LENGTH: usize = FIELDS + 2;
+/// amount in two, then the index.
+const SETTINGS_LENGTH: usize = FIELDS + 2 + INDEX_LENGTH;
 
 /// One call with its arguments.
 #[derive(Clone, Debug, PartialEq, Eq)]
@@ -288,24 +293,47 @@ fn push_string(bytes: &mut Vec<u8>, string: &[u8]) {
 }
 
 /// Settings in a stream: "one byte a field", then "the unused amount, two
-/// bytes". "A number of two bytes has its most significant byte first".
-fn settings_bytes(settings: Settings) -> [u8; SETTINGS_LENGTH] {
-    let mut bytes = [0; SETTINGS_LENGTH];
-    let (fields, unused) = bytes.split_at_mut(FIELDS);
-    fields.copy_from_slice(&settings.fields());
-    unused.copy_from_slice(&settings.unused.to_be_bytes());
+/// bytes", then "the places of the labels 20H to 7EH". "A number of two bytes has
+/// its most significant byte first".
+fn settings_bytes(settings: Settings) -> Vec<u8> {
+    let mut bytes = settings.fields().to_vec();
+    bytes.extend(settings.unused.to_be_bytes());
+    bytes.extend(index_bytes(&settings.index));
     bytes
+}
+
+fn index_bytes(index: &Index) -> Vec<u8> {
+    index
+        .entries
+        .iter()
+        .flat_map(|entry| entry.to_be_bytes())
+        .collect()
 }
 
 /// The settings that [`settings_bytes`] lays out; none where the string is of
 /// another length.
 fn settings_of(string: &[u8]) -> Option<Settings> {
-    let (fields, unused) = string.split_at_checked(FIELDS)?;
+    if string.len() != SETTINGS_LENGTH {
+        return None;
+    }
+    let (fields, rest) = string.split_at_checked(FIELDS)?;
+    let (unused, entries) = rest.split_at_checked(2)?;
     let settings = Settings {
         unused: u16::from_be_bytes(unused.try_into().ok()?),
+        index: index_of(entries),
         ..Settings::default()
     };
     Some(settings.with_fields(fields.try_into().ok()?))
+}
+
+/// The index that [`index_bytes`] lays out.
+fn index_of(bytes: &[u8]) -> Index {
+    let mut index = Index::default();
+    let (pairs, _) = bytes.as_chunks();
+    for (entry, pair) in index.entries.iter_mut().zip(pairs) {
+        *entry = u16::from_be_bytes(*pair);
+    }
+    index
 }
 
 /// A date in a stream: the year in two bytes, then month and day. "A number of
@@ -318,7 +346,7 @@ fn push_date(bytes: &mut Vec<u8>, date: Date) {
 /// What comes next in a stream.
 #[derive(Debug, PartialEq, Eq)]
 pub enum Next {
-    Case(Case),
+    Case(Box<Case>),
     /// "an unknown call byte, settings of another length, an input that ends
     /// inside a case"
     Bad,
@@ -333,7 +361,7 @@ pub fn next_case(input: &mut impl BufRead) -> io::Result<Next> {
     };
     input.consume(1);
     match read_arguments(call, input) {
-        Ok(Some(case)) => Ok(Next::Case(case)),
+        Ok(Some(case)) => Ok(Next::Case(Box::new(case))),
         Ok(None) => Ok(Next::Bad),
         Err(error) if error.kind() == io::ErrorKind::UnexpectedEof => Ok(Next::Bad),
         Err(error) => Err(error),
@@ -492,6 +520,7 @@ impl Line {
             self.number(field);
         }
         self.number(settings.unused);
+        self.string(&index_bytes(&settings.index));
     }
 
     fn string(&mut self, string: &[u8]) {

@@ -1,6 +1,6 @@
-/* Each field of each struct of pagozkin.h, by name, after calls that give every field of a struct another value; unused amounts that are
- * right and that are wrong; dates that exist and dates that do not; renewal dates, weekdays and days between dates; what a read leaves
- * in its room; and each call with empty slices. */
+/* Each field of each struct of pagozkin.h, by name, after calls that give every field of a struct another value; unused amounts and
+ * indices that are right and that are wrong; dates that exist and dates that do not; renewal dates, weekdays and days between dates;
+ * what a read leaves in its room; and each call with empty slices. */
 #include "expect.h"
 
 #include <pagozkin.h>
@@ -30,6 +30,8 @@ static pagozkin_settings board(void)
     IS(made.number, PAGOZKIN_WRONG_TYPE);
     IS(made.settings.month, 0);
     IS(made.settings.unused, 0);
+    for (size_t i = 0; i < PAGOZKIN_PLACES; i++)
+        IS(made.settings.places[i], 0);
     made = pagozkin_fresh('C', memory, MEMORY);
     IS(made.number, PAGOZKIN_DONE);
     IS(made.settings.month, 1);
@@ -37,6 +39,8 @@ static pagozkin_settings board(void)
     IS(made.settings.format, 'S');
     IS(made.settings.own, 'C');
     IS(made.settings.unused, MEMORY);
+    for (size_t i = 0; i < PAGOZKIN_PLACES; i++)
+        IS(made.settings.places[i], PAGOZKIN_NOWHERE);
     return made.settings;
 }
 
@@ -61,6 +65,8 @@ static void runs(void)
     IS(a.settings.own, 'C');
     IS(a.settings.files, 2);
     IS(a.settings.unused, MEMORY - 2 * (PAGOZKIN_RECORD + 0x10));
+    IS(a.settings.places['A' - PAGOZKIN_FIRST_LABEL], 0);
+    IS(a.settings.places['B' - PAGOZKIN_FIRST_LABEL], PAGOZKIN_RECORD + 0x10);
     is("a sound board", pagozkin_is_sound(a.settings, memory, MEMORY), 1);
 
     pagozkin_settings late = a.settings;
@@ -73,20 +79,48 @@ static void runs(void)
     IS(a.settings.minute, 34);
 }
 
-/* Memory's length less, for each file, its record and its SIZE: what settings of version 1 have to be given. */
-static uint16_t unused(uint8_t files)
+/* What settings of an older version have to be given: memory's length less, for each file, its record and its SIZE; and for each label
+ * where its record begins. */
+static void give(pagozkin_settings *s)
 {
     size_t at = 0;
-    for (; files > 0; files--) {
+    for (size_t i = 0; i < PAGOZKIN_PLACES; i++)
+        s->places[i] = PAGOZKIN_NOWHERE;
+    for (uint8_t files = s->files; files > 0; files--) {
         size_t size = 0;
         for (size_t i = 3; i < 7; i++)
             size = size * 16 + (size_t)(memory[at + i] < 'A' ? memory[at + i] - '0' : memory[at + i] - 'A' + 10);
+        s->places[memory[at] - PAGOZKIN_FIRST_LABEL] = (uint16_t)at;
         at += PAGOZKIN_RECORD + size;
     }
-    return (uint16_t)(MEMORY - at);
+    s->unused = (uint16_t)(MEMORY - at);
 }
 
-/* The unused amount: after each run that sum, told by F "#"; and no other amount is sound. */
+/* A board that is not sound: 1, and its settings come back as they were. */
+static void unsound(const char *what, pagozkin_settings s)
+{
+    is(what, pagozkin_is_sound(s, memory, MEMORY), 0);
+    pagozkin_answer a = pagozkin_run(s, memory, MEMORY, reply, sizeof reply, BYTES("_01Z00_02F#_04"));
+    is(what, a.number, PAGOZKIN_NOT_SOUND);
+    is("the settings of a refused run", (size_t)memcmp(&a.settings, &s, sizeof s), 0);
+}
+
+/* No other place of a label is sound, for each label. */
+static void misplaced(pagozkin_settings s)
+{
+    for (size_t k = 0; k < PAGOZKIN_PLACES; k++) {
+        const uint16_t right = s.places[k];
+        const uint16_t wrong[] = {(uint16_t)(right + 1), (uint16_t)(right - 1), 0, PAGOZKIN_RECORD, 27, MEMORY, PAGOZKIN_NOWHERE};
+        for (size_t i = 0; i < sizeof wrong / sizeof wrong[0]; i++) {
+            pagozkin_settings other = s;
+            other.places[k] = wrong[i];
+            if (wrong[i] != right)
+                unsound("a board with a wrong place", other);
+        }
+    }
+}
+
+/* The unused amount and the places: after each run those, the amount told by F "#"; and no others are sound. */
 static void amounts(void)
 {
     static const struct {
@@ -98,12 +132,19 @@ static void amounts(void)
         {"_01Z00_02E$AAU0010FF00_03_02AAHELLO_04", 485},
         {"_01Z00_02E$AAU01F5FF00SBL00080000_04", 485},
         {"_01Z00_02E$SBL00080000AAU0000FF00_04", 0},
+        {"_01Z00_02E$ AU0010FF00~BL00080000_04", 466},
     };
     pagozkin_settings s = board();
     for (size_t i = 0; i < sizeof each / sizeof each[0]; i++) {
         s = pagozkin_run(s, memory, MEMORY, reply, sizeof reply, (const uint8_t *)each[i].sent, strlen(each[i].sent)).settings;
         IS(s.unused, each[i].left);
-        IS(s.unused, unused(s.files));
+        pagozkin_settings given = s;
+        given.unused = 0;
+        memset(given.places, 0, sizeof given.places);
+        unsound("a board of an older version", given);
+        give(&given);
+        is("what it has to be given", (size_t)memcmp(&given, &s, sizeof s), 0);
+        misplaced(s);
         pagozkin_answer a = pagozkin_run(s, memory, MEMORY, reply, sizeof reply, BYTES("_01Z00_02F#_04"));
         IS(a.tally.done, 1);
         IS(a.settings.unused, each[i].left);
@@ -115,10 +156,7 @@ static void amounts(void)
         for (size_t k = 0; k < sizeof wrong / sizeof wrong[0]; k++) {
             pagozkin_settings other = s;
             other.unused = (uint16_t)(s.unused + wrong[k]);
-            is("a board with a wrong amount", pagozkin_is_sound(other, memory, MEMORY), 0);
-            a = pagozkin_run(other, memory, MEMORY, reply, sizeof reply, BYTES("_01Z00_02F#_04"));
-            IS(a.number, PAGOZKIN_NOT_SOUND);
-            IS(a.settings.unused, other.unused);
+            unsound("a board with a wrong amount", other);
         }
     }
 }

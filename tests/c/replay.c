@@ -96,7 +96,7 @@ static int read_string(string *s)
 static int read_settings(void)
 {
     const uint8_t *s = bytes(&d);
-    if (!read_string(&d) || d.length != 12)
+    if (!read_string(&d) || d.length != 12 + 2 * PAGOZKIN_PLACES)
         return 0;
     settings.hour = s[0];
     settings.minute = s[1];
@@ -109,6 +109,8 @@ static int read_settings(void)
     settings.own = s[8];
     settings.files = s[9];
     settings.unused = (uint16_t)(s[10] * 256 + s[11]);
+    for (size_t i = 0; i < PAGOZKIN_PLACES; i++)
+        settings.places[i] = (uint16_t)(s[12 + 2 * i] * 256 + s[13 + 2 * i]);
     return 1;
 }
 
@@ -130,6 +132,9 @@ static void print_settings(pagozkin_settings s)
 {
     printf("%u %u %u %u %u %u %u %u %u %u %u ", s.hour, s.minute, s.month, s.day, s.year, s.format, s.speaker, s.address, s.own,
            s.files, s.unused);
+    for (size_t i = 0; i < PAGOZKIN_PLACES; i++)
+        printf("%04X", s.places[i]);
+    putchar(' ');
 }
 
 static void print_written(string *out)

@@ -1,12 +1,9 @@
 // Memory "holds 0 to 64 files in order without gaps: an 11-byte record in ASCII, then SIZE bytes of content".
-use crate::Found;
 use octets::hex::number_at;
 ghost use mathlib.Core.Path.{_≡_};
-ghost use mathlib.Core.Bool.{true};
 ghost use Prim.Native.Nat.{_+_, _≤_};
 ghost use lib.ListN.{length, drop};
-ghost use Rattle.board.specs.Files.{sizeOf, filesOf, isAt, find};
-ghost use Rattle.board.specs.Soundness.{holdsFiles};
+ghost use Rattle.board.specs.Files.{sizeOf};
 
 // "T: "A" TEXT, "B" STRING."
 pub const TEXT: u8 = 0x41;
@@ -38,30 +35,4 @@ pub fn file_length(m: &[u8], at: usize) -> usize
     ensures { λ r. ⌜ r ≡ 11 + sizeOf (drop at (now (m .entry))) ⌝ }
 {
     RECORD + size_at(m, at)
-}
-
-// Whether the record at a place has a label and a type.
-fn is_at(m: &[u8], at: usize, label: u8, kind: u8) -> bool
-    requires { ⌜ at + 11 ≤ length (now m) ⌝ }
-    ensures { λ r. ⌜ r ≡ isAt label kind (drop at (now (m .entry))) ⌝ }
-{
-    m[at] == label && m[at + 1] == kind
-}
-
-// The file of a label and type among n files.
-pub fn find(m: &[u8], n: usize, label: u8, kind: u8) -> Found
-    requires { ⌜ holdsFiles n (now m) ≡ true ⌝ }
-    ensures { λ r. ⌜ r ≡ find label kind (filesOf n (now (m .entry))) 0 ⌝ }
-{
-    let mut at: usize = 0;
-    let mut left = n;
-    while 0 < left {
-        let size = size_at(m, at);
-        if is_at(m, at, label, kind) {
-            return Found::At(at + RECORD, size);
-        }
-        at = at + RECORD + size;
-        left -= 1;
-    }
-    Found::Nothing
 }

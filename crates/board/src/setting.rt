@@ -68,12 +68,13 @@ impl Settings {
     }
 
     // All that "$" changes.
-    pub fn with_files(self, files: u8, unused: u16) -> Settings
-        ensures { λ r. ⌜ r ≡ withFiles self files unused ⌝ }
+    pub fn with_files(self, files: u8, unused: u16, places: [u16; 95]) -> Settings
+        ensures { λ r. ⌜ r ≡ withFiles self files unused places ⌝ }
     {
         let mut next = self;
         next.files = files;
         next.unused = unused;
+        next.places = places;
         next
     }
 }

@@ -6,9 +6,8 @@ use crate::files::RECORD;
 use crate::files::SIZE;
 use crate::files::STRING;
 use crate::files::TEXT;
-use crate::files::file_length;
-use crate::files::size_at;
-use crate::labels::labels_distinct;
+use crate::index::entries;
+use crate::index::entry;
 use crate::setting::in_range;
 use octets::bytes::ANY;
 use octets::bytes::FIRST_PRINTABLE;
@@ -29,8 +28,9 @@ ghost use lib.ListN.{length, drop};
 ghost use Rattle.octets.specs.Choice.{if_then_else_, _is_, _≤?_, between, all};
 ghost use Rattle.octets.specs.Bytes.{isNul};
 ghost use Rattle.board.specs.Files.{STRING};
-ghost use Rattle.board.specs.Soundness.{isLabel, isKind, isProtection, isSize, isStartCode, isStopCode, isCodes, isRecord, isContent, isFileAt, isMemory, sound};
-ghost use Rattle.board.specs.Rest.{holdsAllBut, soundAllBut};
+ghost use Rattle.board.specs.Index.{entry};
+ghost use Rattle.board.specs.Soundness.{isLabel, isKind, isProtection, isStartCode, isStopCode, isCodes, isRecord, isContent, isMemory, sound};
+ghost use Rattle.board.specs.Noted.{sizeOrNone, recordOrNone, lengthAt, entries, holdsNoted, soundNoted};
 
 // "P: "U" or "L""
 const UNLOCKED: u8 = 0x55;
@@ -96,13 +96,18 @@ fn is_size_of(kind: u8, size: u16, nought: bool) -> bool
 }
 
 // "SIZE: four upper-case hex digits", of the record at a place; whether a TEXT's may be 0000 is told.
-fn is_size(m: &[u8], at: usize, nought: bool) -> bool
+fn size_or_none(m: &[u8], at: usize, nought: bool) -> Four
     requires { ⌜ at + 11 ≤ length (now m) ⌝ }
-    ensures { λ r. ⌜ r ≡ isSize nought (drop at (now (m .entry))) ⌝ }
+    ensures { λ r. ⌜ r ≡ sizeOrNone nought (drop at (now (m .entry))) ⌝ }
 {
     match four_at(m, at + SIZE) {
-        Four::Bad => false,
-        Four::Value(v) => is_size_of(m[at + 1], v, nought),
+        Four::Bad => Four::Bad,
+        Four::Value(v) => {
+            if is_size_of(m[at + 1], v, nought) {
+                return Four::Value(v);
+            }
+            Four::Bad
+        }
     }
 }
 
@@ -140,15 +145,29 @@ fn is_codes(m: &[u8], at: usize) -> bool
     is_start_code(m, q) && is_stop_code(m, q + 2)
 }
 
-// "A record is F T P SIZE QQQQ (Table 14)."
+// "A record is F T P SIZE QQQQ (Table 14).": its SIZE, or that it is none.
+fn record_or_none(m: &[u8], at: usize, nought: bool) -> Four
+    requires { ⌜ at + 11 ≤ length (now m) ⌝ }
+    ensures { λ r. ⌜ r ≡ recordOrNone nought (drop at (now (m .entry))) ⌝ }
+{
+    if !is_named(m[at], m[at + 1], m[at + 2]) {
+        return Four::Bad;
+    }
+    if !is_codes(m, at) {
+        return Four::Bad;
+    }
+    size_or_none(m, at, nought)
+}
+
+// Whether a record stands at a place.
 pub fn is_record(m: &[u8], at: usize, nought: bool) -> bool
     requires { ⌜ at + 11 ≤ length (now m) ⌝ }
     ensures { λ r. ⌜ r ≡ isRecord nought (drop at (now (m .entry))) ⌝ }
 {
-    if !is_named(m[at], m[at + 1], m[at + 2]) {
-        return false;
+    match record_or_none(m, at, nought) {
+        Four::Bad => false,
+        Four::Value(_) => true,
     }
-    is_size(m, at, nought) && is_codes(m, at)
 }
 
 // Every byte is 00H: none is left behind those that are.
@@ -167,37 +186,56 @@ fn is_content(c: &[u8]) -> bool
     all_nul(&c[end..])
 }
 
-// Whether a file stands at a place: its record, and its content inside memory.
-fn is_file(m: &[u8], at: usize) -> bool
+// The bytes that the file at a place takes, its record and its content inside memory; 0 where no file stands there.
+fn length_at(m: &[u8], at: usize) -> usize
     requires { ⌜ at ≤ length (now m) ⌝ }
-    ensures { λ r. ⌜ r ≡ isFileAt (drop at (now (m .entry))) ⌝ }
+    ensures { λ r. ⌜ r ≡ lengthAt (drop at (now (m .entry))) ⌝ }
 {
     if m.len() - at < RECORD {
-        return false;
+        return 0;
     }
-    if !is_record(m, at, false) {
-        return false;
+    match record_or_none(m, at, false) {
+        Four::Bad => 0,
+        Four::Value(v) => {
+            let size = v as usize;
+            let from = at + RECORD;
+            if m.len() - from < size {
+                return 0;
+            }
+            let to = from + size;
+            if !is_content(&m[from..to]) {
+                return 0;
+            }
+            RECORD + size
+        }
     }
-    let from = at + RECORD;
-    let size = size_at(m, at);
-    if m.len() - from < size {
-        return false;
-    }
-    let to = from + size;
-    is_content(&m[from..to])
 }
 
-// n files in order without gaps; "Memory after the last file is 00H."; and so many bytes are behind them as are told: one walk.
-fn holds_files(m: &[u8], n: usize, rest: usize) -> bool
-    ensures { λ r. ⌜ r ≡ holdsAllBut n rest (now (m .entry)) ⌝ }
+// Whether the entry of a label is a place.
+fn is_entered(places: &[u16], label: u8, at: usize) -> bool
+    requires { ⌜ length (now places) ≡ 95 ⌝ }
+    ensures { λ r. ⌜ r ≡ (entry (now (places .entry)) label is at) ⌝ }
+{
+    entry(places, label) as usize == at
+}
+
+// n files in order without gaps, each where the index has its label; "Memory after the last file is 00H."; and so many bytes are
+// behind them as are told: one walk.
+fn holds_files(m: &[u8], n: usize, rest: usize, places: &[u16]) -> bool
+    requires { ⌜ length (now places) ≡ 95 ⌝ }
+    ensures { λ r. ⌜ r ≡ holdsNoted n rest (now (places .entry)) (now (m .entry)) ⌝ }
 {
     let mut at: usize = 0;
     let mut left = n;
     while 0 < left {
-        if !is_file(m, at) {
+        let long = length_at(m, at);
+        if long == 0 {
             return false;
         }
-        at += file_length(m, at);
+        if !is_entered(places, m[at], at) {
+            return false;
+        }
+        at += long;
         left -= 1;
     }
     let behind = m.len() - at;
@@ -211,9 +249,19 @@ pub fn is_memory(length: usize) -> bool
     LEAST_MEMORY <= length && length <= MOST_MEMORY
 }
 
-// Memory with n files, and so many bytes unused.
-fn sound_memory(m: &[u8], n: u8, rest: u16) -> bool
-    ensures { λ r. ⌜ r ≡ soundAllBut n rest (now (m .entry)) ⌝ }
+// As many entries as files.
+fn as_many(places: &[u16], n: u8) -> bool
+    requires { ⌜ length (now places) ≡ 95 ⌝ }
+    ensures { λ r. ⌜ r ≡ (entries (now (places .entry)) is n) ⌝ }
+{
+    entries(places) == n as u16
+}
+
+// Memory with n files, so many bytes unused, and the index: where it has every file's place, as many entries as files say that it has
+// no other.
+fn sound_memory(m: &[u8], n: u8, rest: u16, places: &[u16]) -> bool
+    requires { ⌜ length (now places) ≡ 95 ⌝ }
+    ensures { λ r. ⌜ r ≡ soundNoted n rest (now (places .entry)) (now (m .entry)) ⌝ }
 {
     if !is_memory(m.len()) {
         return false;
@@ -221,10 +269,10 @@ fn sound_memory(m: &[u8], n: u8, rest: u16) -> bool
     if FILES < n {
         return false;
     }
-    if !holds_files(m, n as usize, rest as usize) {
+    if !holds_files(m, n as usize, rest as usize, places) {
         return false;
     }
-    labels_distinct(m, n as usize, true)
+    as_many(places, n)
 }
 
 // Soundness of a board, whatever its settings and its memory are.
@@ -234,5 +282,5 @@ pub fn sound(s: Settings, m: &[u8]) -> bool
     if !in_range(s) {
         return false;
     }
-    sound_memory(m, s.files, s.unused)
+    sound_memory(m, s.files, s.unused, &s.places)
 }

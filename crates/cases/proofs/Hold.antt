@@ -11,6 +11,7 @@ use Rattle.sheet.proofs.Computing.{base}
 use Rattle.cases.specs.Numbers.{numberOf, blockNumber, holds, allHold, times, numbersTable}
 use Rattle.cases.specs.Dates.{eachWay, datesTable}
 use Rattle.cases.specs.Unused.{wrongOn, unusedTable}
+use Rattle.cases.specs.Index.{misplaced, indexTable}
 use Rattle.cases.specs.Renewals.{AllAnswer, renewalsTable}
 use Rattle.cases.specs.Witnesses.{AllShow, witnesses}
 
@@ -25,6 +26,10 @@ dates = refl
 pub unused-amounts : allHold unusedTable ≡ true
 unfolding numberOf blockNumber holds allHold wrongOn unusedTable bytes start inTurn onFresh base
 unused-amounts = refl
+
+pub indices : allHold indexTable ≡ true
+unfolding numberOf blockNumber holds allHold misplaced indexTable bytes start inTurn onFresh base
+indices = refl
 
 pub renewals : AllAnswer renewalsTable
 unfolding

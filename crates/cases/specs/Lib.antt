@@ -1,5 +1,6 @@
 pub mod Numbers
 pub mod Dates
 pub mod Unused
+pub mod Index
 pub mod Renewals
 pub mod Witnesses

@@ -11,7 +11,8 @@ use Rattle.cases.specs.Numbers.{Call, running, Row, row, E'S}
 -- a frame on the board that a run left, but with this amount
 abbrev pub keeping : Outcome → ℕ → Call
 keeping x u =
-    running (withFiles (x .answer .settings) (x .answer .settings .files) u) (x .memory) (length (x .memory) + 64) E'S
+    let s = x .answer .settings in
+    running (withFiles s (s .files) u (s .places)) (x .memory) (length (x .memory) + 64) E'S
 
 -- a fresh board of so much memory after frames: amounts that are wrong on it, and the one that is right
 unfoldable pub wrongOn : ℕ → List String → List ℕ → ℕ → List Row

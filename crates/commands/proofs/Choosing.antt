@@ -45,51 +45,52 @@ does-tells s m out e r after t =
       long = t .long;
     }
 
--- ---- the command by its byte; m′ and out′ are what is left
+-- ---- a block with a right sum; m′ and out′ are what is left
 
-module _ (s : Settings) (m : List ℕ) (code : ℕ) (text out : List ℕ) (r : Done) where
+module _ (s : Settings) (m : List ℕ) (code : ℕ) (text out : List ℕ) (right : Bool) (w : not right ≡ false) (r : Done) where
+  by-command : (m′ out′ : List ℕ) → Does out (command (board s m) code text) r m′ out′ → Does out (runBlock (board s m) (block code text right)) r m′ out′
+  unfolding runBlock
+  by-command m′ out′ d = rw w d
+
   module _ (m′ : List ℕ) where
-    pub write-text : code ≡ A → Acts (writeFile TEXT (board s m) text) r m′ → Does out (command (board s m) code text) r m′ out
+    pub write-text : code ≡ A → Acts (writeFile TEXT (board s m) text) r m′ → Does out (runBlock (board s m) (block code text right)) r m′ out
     unfolding command
-    write-text e a = rw e (does-acts out (writeFile TEXT (board s m) text) r m′ a)
+    write-text e a = by-command m′ out (rw e (does-acts out (writeFile TEXT (board s m) text) r m′ a))
 
-    pub write-string : code ≡ G → Acts (writeFile STRING (board s m) text) r m′ → Does out (command (board s m) code text) r m′ out
+    pub write-string : code ≡ G → Acts (writeFile STRING (board s m) text) r m′ → Does out (runBlock (board s m) (block code text right)) r m′ out
     unfolding command
-    write-string e a = rw e (does-acts out (writeFile STRING (board s m) text) r m′ a)
+    write-string e a = by-command m′ out (rw e (does-acts out (writeFile STRING (board s m) text) r m′ a))
 
-    pub set-special : code ≡ E → Acts (writeSpecial (board s m) text) r m′ → Does out (command (board s m) code text) r m′ out
+    pub set-special : code ≡ E → Acts (writeSpecial (board s m) text) r m′ → Does out (runBlock (board s m) (block code text right)) r m′ out
     unfolding command
-    set-special e a = rw e (does-acts out (writeSpecial (board s m) text) r m′ a)
+    set-special e a = by-command m′ out (rw e (does-acts out (writeSpecial (board s m) text) r m′ a))
 
   module _ (out′ : List ℕ) where
-    pub read-text : code ≡ B → Tells (board s m) out (readFile TEXT A (board s m) text) r out′ → Does out (command (board s m) code text) r m out′
+    pub read-text : code ≡ B → Tells (board s m) out (readFile TEXT A (board s m) text) r out′ → Does out (runBlock (board s m) (block code text right)) r m out′
     unfolding command
-    read-text e t = rw e (does-tells s m out (readFile TEXT A (board s m) text) r out′ t)
+    read-text e t = by-command m out′ (rw e (does-tells s m out (readFile TEXT A (board s m) text) r out′ t))
 
-    pub read-string : code ≡ H → Tells (board s m) out (readFile STRING G (board s m) text) r out′ → Does out (command (board s m) code text) r m out′
+    pub read-string : code ≡ H → Tells (board s m) out (readFile STRING G (board s m) text) r out′ → Does out (runBlock (board s m) (block code text right)) r m out′
     unfolding command
-    read-string e t = rw e (does-tells s m out (readFile STRING G (board s m) text) r out′ t)
+    read-string e t = by-command m out′ (rw e (does-tells s m out (readFile STRING G (board s m) text) r out′ t))
 
-    pub get-special : code ≡ F → Tells (board s m) out (readSpecial (board s m) text) r out′ → Does out (command (board s m) code text) r m out′
+    pub get-special : code ≡ F → Tells (board s m) out (readSpecial (board s m) text) r out′ → Does out (runBlock (board s m) (block code text right)) r m out′
     unfolding command
-    get-special e t = rw e (does-tells s m out (readSpecial (board s m) text) r out′ t)
+    get-special e t = by-command m out′ (rw e (does-tells s m out (readSpecial (board s m) text) r out′ t))
 
   pub unknown : (code ≡ A → ⊥) → (code ≡ G → ⊥) → (code ≡ B → ⊥) → (code ≡ H → ⊥) → (code ≡ E → ⊥) → (code ≡ F → ⊥) →
-      r ≡ doneAs 21 s 0 → Does out (command (board s m) code text) r m out
+      r ≡ doneAs 21 s 0 → Does out (runBlock (board s m) (block code text right)) r m out
   unfolding command
   unknown a g b h e f q =
-      rw (ne-eqb code A a, ne-eqb code G g, ne-eqb code B b, ne-eqb code H h, ne-eqb code E e, ne-eqb code F f)
-      (does-acts out _ r m (acts-refused 21 s m r q))
+      by-command m out
+      (rw (ne-eqb code A a, ne-eqb code G g, ne-eqb code B b, ne-eqb code H h, ne-eqb code E e, ne-eqb code F f)
+      (does-acts out _ r m (acts-refused 21 s m r q)))
 
-  -- ---- the sum before it
+-- ---- with a wrong one
 
-  pub sum-wrong : (right : Bool) → not right ≡ true → r ≡ doneAs 20 s 0 → Does out (runBlock (board s m) (block code text right)) r m out
-  unfolding runBlock
-  sum-wrong right w q = rw w (does-acts out _ r m (acts-refused 20 s m r q))
+pub sum-wrong : (s : Settings) (m : List ℕ) (code : ℕ) (text out : List ℕ) (right : Bool) → not right ≡ true → (r : Done) → r ≡ doneAs 20 s 0 →
+    Does out (runBlock (board s m) (block code text right)) r m out
+unfolding runBlock
+sum-wrong s m code text out right w r q = rw w (does-acts out _ r m (acts-refused 20 s m r q))
 
-  pub sum-right : (right : Bool) (m′ out′ : List ℕ) → not right ≡ false → Does out (command (board s m) code text) r m′ out′ →
-      Does out (runBlock (board s m) (block code text right)) r m′ out′
-  unfolding runBlock
-  sum-right right m′ out′ w d = rw w d
-
-pub ruleset choosing = (write-text, write-string, set-special, read-text, read-string, get-special, unknown, sum-wrong, sum-right, needs)
+pub ruleset choosing = (write-text, write-string, set-special, read-text, read-string, get-special, unknown, sum-wrong, needs)

@@ -16,8 +16,9 @@ use Rattle.octets.proofs.Places.{take-front}
 use Rattle.octets.proofs.Buffers.{length-splice}
 use Rattle.buffers.proofs.Splices.{splice-in, overlay-covers}
 use Rattle.board.specs.Files.{filesOf, find}
+use Rattle.board.specs.Index.{lookUp}
 use Rattle.board.specs.Soundness.{sound}
-use Rattle.board.proofs.Inside.{sound-held, found-inside}
+use Rattle.board.proofs.Inside.{sound-held, sound-found, sound-within, found-inside}
 use Rattle.board.specs.declared.Settings.{Settings}
 use Rattle.board.specs.declared.Found.{Found}
 use Rattle.board.specs.declared.Found.the-variants.{At, Nothing}
@@ -47,7 +48,7 @@ module _ (content : List ℕ) (n : ℕ) (e : n ≡ 0 + length (front isPlain con
   pub told-put : (out after : List ℕ) → after ≡ splice out 27 (take n content) → Told out (front isPlain content) after n
   told-put out after p = record { stored = p ∙ ap (splice out 27) told-part; long = told-end }
 
--- ---- the reply around a content; f is what was found
+-- ---- the reply around a content; f is what the index answers, and so what is found
 
 -- a content of memory
 module _ (m : List ℕ) (start size : ℕ) where
@@ -80,19 +81,21 @@ module _ (m : List ℕ) (start size : ℕ) where
             rw told-there at (r .long),
           )
 
-module _ (s : Settings) (m : List ℕ) (label kind : ℕ) (f : Found) (e : f ≡ find label kind (filesOf (s .files) m) 0) where
+module _ (s : Settings) (m : List ℕ) (g : sound s m ≡ true) (label kind : ℕ) (f : Found) (a : f ≡ lookUp (s .places) m label kind) where
+  abbrev e : f ≡ find label kind (filesOf (s .files) m) 0
+  e = a ∙ sound-found s m g label kind
+
   module _ (code : ℕ) (out : List ℕ) where
     pub get-none : f ≡ Nothing → (r : Done) → r ≡ doneAs 23 s 0 → Tells (board s m) out (getContent code (board s m) label (findOn (board s m) label kind)) r out
     unfolding getContent
     get-none p r q = rw (← e, p) (tells-refused 23 s m r q out)
 
   module _ (start size : ℕ) (p : f ≡ At start size) where
-    module _ (g : sound s m ≡ true) where
-      pub get-inside : start + size ≤ length m
-      get-inside = found-inside m (s .files) label kind start size f (sound-held s m g) e p
+    pub get-inside : start + size ≤ length m
+    get-inside = found-inside m (s .files) label kind start size f (sound-held s m g) e p
 
-      pub get-fits : length m < 2 ^ 64 → Fits w64 (start + size)
-      get-fits h = omega (arith, get-inside)
+    pub get-fits : length m < 2 ^ 64 → Fits w64 (start + size)
+    get-fits h = omega (arith, get-inside)
 
     pub get-done : (code : ℕ) (out after last : List ℕ) (n k : ℕ) → length m + 64 ≤ length out → Told out (front isPlain (take (start + size - start) (drop start m))) after n →
         Replied after code label (take n (drop 27 after)) last k → Tells (board s m) out (getContent code (board s m) label (findOn (board s m) label kind)) (doneAs 0 s k) last
@@ -114,4 +117,4 @@ module _ (s : Settings) (m : List ℕ) (kind code : ℕ) (text out : List ℕ) (
   unfolding readFile
   read-one after h t = rw (eq-eqb (length text) 1 h) t
 
-pub ruleset gets = (told-inside, told-room, told-put, content-room, reply-room, sound-held, get-none, get-inside, get-fits, get-done, read-not, read-one, needs)
+pub ruleset gets = (told-inside, told-room, told-put, content-room, reply-room, sound-within, get-none, get-inside, get-fits, get-done, read-not, read-one, needs)

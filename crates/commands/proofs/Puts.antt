@@ -12,8 +12,9 @@ use Rattle.octets.specs.Choice.{_!_}
 use Rattle.octets.specs.Buffer.{zeros, splice}
 use Rattle.buffers.proofs.Splices.{splice-append}
 use Rattle.board.specs.Files.{filesOf, find}
+use Rattle.board.specs.Index.{lookUp}
 use Rattle.board.specs.Soundness.{sound}
-use Rattle.board.proofs.Inside.{sound-held, found-inside}
+use Rattle.board.proofs.Inside.{sound-held, sound-found, sound-within, found-inside}
 use Rattle.board.specs.declared.Settings.{Settings}
 use Rattle.board.specs.declared.Found.{Found}
 use Rattle.board.specs.declared.Found.the-variants.{At, Nothing}
@@ -31,8 +32,11 @@ unfolding holding
 hold-put m a b msg start size h p q =
     q ∙ ap (λ l. splice l (start + length msg) (zeros (size - length msg))) p ∙ splice-append m start msg (omega (arith, h .fits, h .inside)) (zeros (size - length msg))
 
--- f is what was found
-module _ (s : Settings) (m : List ℕ) (label kind : ℕ) (f : Found) (e : f ≡ find label kind (filesOf (s .files) m) 0) (msg : List ℕ) where
+-- f is what the index answers, and so what is found
+module _ (s : Settings) (m : List ℕ) (g : sound s m ≡ true) (label kind : ℕ) (f : Found) (a : f ≡ lookUp (s .places) m label kind) (msg : List ℕ) where
+  abbrev e : f ≡ find label kind (filesOf (s .files) m) 0
+  e = a ∙ sound-found s m g label kind
+
   pub put-none : f ≡ Nothing → (r : Done) → r ≡ doneAs 23 s 0 → Acts (putMessage (board s m) (findOn (board s m) label kind) msg) r m
   unfolding putMessage
   put-none p r q = rw (← e, p) (acts-refused 23 s m r q)
@@ -43,8 +47,8 @@ module _ (s : Settings) (m : List ℕ) (label kind : ℕ) (f : Found) (e : f ≡
     put-long h r q = rw (← e, p, lt-ltb size (length msg) h) (acts-refused 24 s m r q)
 
     module _ (h : length msg ≤ size) where
-      pub put-room : sound s m ≡ true → Room m start size msg
-      put-room g = record { fits = h; inside = found-inside m (s .files) label kind start size f (sound-held s m g) e p }
+      pub put-room : Room m start size msg
+      put-room = record { fits = h; inside = found-inside m (s .files) label kind start size f (sound-held s m g) e p }
 
       pub put-done : (m′ : List ℕ) → m′ ≡ holding m start size msg → (r : Done) → r ≡ doneAs 0 s 0 → Acts (putMessage (board s m) (findOn (board s m) label kind) msg) r m′
       unfolding putMessage
@@ -63,4 +67,4 @@ module _ (s : Settings) (m : List ℕ) (kind : ℕ) (r : Done) where
   write-some [] m′ h a = absurd (h refl)
   write-some (x ∷ text) m′ h a = rw (take-all (length (x ∷ text) - 1) text (omega arith)) at a
 
-pub ruleset puts = (hold-put, sound-held, put-none, put-long, put-room, put-done, write-none, write-some, needs)
+pub ruleset puts = (hold-put, sound-within, put-none, put-long, put-room, put-done, write-none, write-some, needs)

@@ -18,27 +18,12 @@ use special::read_special;
 use special::write_special;
 ghost use Rattle.body.specs.Body.{block};
 ghost use Rattle.effects.specs.Effects.{board};
-ghost use Rattle.commands.specs.Blocks.{command, runBlock};
+ghost use Rattle.commands.specs.Blocks.{runBlock};
 ghost use Rattle.commands.specs.Doing.{Does};
 ghost use Rattle.effects.specs.Leaving.{Ready};
 
-// "What each command does", by its byte; the reply to B is written with A, that to H with G.
-fn command(s: Settings, m: &mut [u8], code: u8, text: &[u8], out: &mut [u8]) -> Done
-    requires { ⌜ Ready s (now m) (now out) ⌝ }
-    ensures { λ r. ⌜ Does (now (out .entry)) (command (board s (now (m .entry))) code (now (text .entry))) r (now (m .exit)) (now (out .exit)) ⌝ }
-{
-    match code {
-        A => write_file(s, m, TEXT, text),
-        G => write_file(s, m, STRING, text),
-        B => read_file(s, m, TEXT, A, text, out),
-        H => read_file(s, m, STRING, G, text, out),
-        E => write_special(s, m, text),
-        F => read_special(s, m, text, out),
-        _ => quiet(s, UNKNOWN),
-    }
-}
-
-// A block: command byte, data, and whether its sum is right.
+// A block: command byte, data, and whether its sum is right. "What each command does", by its byte; the reply to B is written with A,
+// that to H with G.
 pub fn run_block(
     s: Settings,
     m: &mut [u8],
@@ -53,5 +38,13 @@ pub fn run_block(
     if !right {
         return quiet(s, WRONG_CHECKSUM);
     }
-    command(s, m, code, text, out)
+    match code {
+        A => write_file(s, m, TEXT, text),
+        G => write_file(s, m, STRING, text),
+        B => read_file(s, m, TEXT, A, text, out),
+        H => read_file(s, m, STRING, G, text, out),
+        E => write_special(s, m, text),
+        F => read_special(s, m, text, out),
+        _ => quiet(s, UNKNOWN),
+    }
 }

@@ -1,7 +1,7 @@
 // The commands A, G, B and H.
 use board::Found;
 use board::Settings;
-use board::files::find;
+use board::index::look_up;
 use buffers::copying::copy_at;
 use buffers::copying::zero_at;
 use effects::Done;
@@ -39,7 +39,7 @@ fn put_message(s: Settings, m: &mut [u8], label: u8, kind: u8, message: &[u8]) -
     requires { ⌜ sound s (now m) ≡ true ⌝ }
     ensures { λ r. ⌜ Acts (putMessage (board s (now (m .entry))) (findOn (board s (now (m .entry))) label kind) (now (message .entry))) r (now (m .exit)) ⌝ }
 {
-    match find(m, s.files as usize, label, kind) {
+    match look_up(&s.places, m, label, kind) {
         Found::Nothing => quiet(s, NO_FILE),
         Found::At(start, size) => {
             if message.len() <= size {
@@ -77,7 +77,7 @@ fn get_content(s: Settings, m: &[u8], label: u8, kind: u8, code: u8, out: &mut [
     requires { ⌜ Ready s (now m) (now out) ⌝ }
     ensures { λ r. ⌜ Tells (board s (now (m .entry))) (now (out .entry)) (getContent code (board s (now (m .entry))) label (findOn (board s (now (m .entry))) label kind)) r (now (out .exit)) ⌝ }
 {
-    match find(m, s.files as usize, label, kind) {
+    match look_up(&s.places, m, label, kind) {
         Found::Nothing => quiet(s, NO_FILE),
         Found::At(start, size) => {
             let end = start + size;

@@ -17,10 +17,11 @@ use Rattle.board.specs.declared.Found.the-variants.{At, Nothing}
 use Rattle.board.specs.declared.Settings.{Settings}
 use Rattle.board.specs.Settings.{withFiles}
 use Rattle.board.specs.Files.{TEXT, STRING, FILES, File, filesOf, unused, distinct}
+use Rattle.board.specs.Index.{indexOf}
 use Rattle.board.specs.Soundness.{soundMemory, sound}
 use Rattle.board.proofs.Ranges.{files-ranged}
 use Rattle.board.proofs.SoundParts.{parts, sound-parts, kept-true, sound-whole}
-use Rattle.board.proofs.Inside.{sound-held, sound-unused}
+use Rattle.board.proofs.Inside.{sound-held, sound-unused, sound-index}
 use Rattle.effects.specs.Effects.{Board, board, Effect, done, replied, refuse}
 use Rattle.commands.specs.Commands.{findOn, holding}
 use Rattle.commands.specs.Commands.{putMessage, writeFile, getContent, readFile}
@@ -29,8 +30,8 @@ use Rattle.special.specs.Configuration.{configure}
 use Rattle.special.specs.Special.{CONFIGURATION, Change, setsAddress, setBy, change, writeSpecial, isTold, readSpecial}
 use Rattle.commands.specs.Blocks.{command, runBlock}
 use Rattle.keeping.specs.Keeping.{fileIn, configures, writes, Effects}
-use Rattle.keeping.proofs.Messages.{content, put-others, holding-files, holding-length, holding-unused, holding-sound}
-use Rattle.records.proofs.RecordLaws.{laid-length, laid-sound}
+use Rattle.keeping.proofs.Messages.{content, put-others, holding-files, holding-length, holding-unused, holding-index, holding-sound}
+use Rattle.records.proofs.RecordLaws.{laid-length, laid-sound, laid-index}
 use Rattle.records.proofs.Refusing.{taken}
 use Rattle.keeping.proofs.Changes.{Kept, set-keeps}
 use Rattle.special.proofs.TellLengths.{told-fits}
@@ -84,12 +85,16 @@ module _ (b : Board) (c : ℕ) where
             sound = λ p s.
                 let t = sound-parts (b .settings) m s in
                 let q = all-tail isPlain label msg p in
-                let u = holding-unused n m (sound-held (b .settings) m s) label kind start size e msg small q in
+                let h = sound-held (b .settings) m s in
+                let u = holding-unused n m h label kind start size e msg small q in
+                let i = holding-index n m h label kind start size e msg small q (b .settings .places) in
                 sound-whole (b .settings) (holding m start size msg)
                 (record {
                   ranged = t .ranged;
                   filed = holding-sound n m (t .filed) label kind start size e msg small q;
-                  kept = kept-true (b .settings) (holding m start size msg) (sound-unused (b .settings) m s ∙ sym u);
+                  kept =
+                      kept-true (b .settings) (holding m start size msg)
+                      (record { unused = sound-unused (b .settings) m s ∙ sym u; index = i ∙ sound-index (b .settings) m s });
                 });
             address = λ n. refl;
             files = λ n. refl;
@@ -165,7 +170,7 @@ module _ (b : Board) (c : ℕ) where
 
       -- the settings after it
       next : Settings
-      next = withFiles (b .settings) n (unused n (laid n (length m) d))
+      next = withFiles (b .settings) n (unused n (laid n (length m) d)) (indexOf n (laid n (length m) d))
 
       fit : isRecords FILES d ≡ true → distinct (labelsIn n d) ≡ true → needed n d ≤ length m → P (done (board next (laid n (length m) d)))
       fit e f g =
@@ -174,11 +179,12 @@ module _ (b : Board) (c : ℕ) where
             long = laid-length d e (length m) g;
             sound = λ p s.
                 let q = sound-parts (b .settings) m s in
+                let l = parts (b .settings .files) m (q .filed) .long in
                 sound-whole next (laid n (length m) d)
                 (record {
-                  ranged = files-ranged (b .settings) (q .ranged) n (unused n (laid n (length m) d));
-                  filed = laid-sound d e (length m) g (parts (b .settings .files) m (q .filed) .long) f;
-                  kept = kept-true next (laid n (length m) d) refl;
+                  ranged = files-ranged (b .settings) (q .ranged) n (unused n (laid n (length m) d)) (indexOf n (laid n (length m) d));
+                  filed = laid-sound d e (length m) g l;
+                  kept = kept-true next (laid n (length m) d) (record { unused = refl; index = laid-index d e (length m) g l f });
                 });
             address = λ n. refl;
             files = λ n. never (sym w ∙ n);

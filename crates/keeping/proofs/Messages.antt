@@ -2,7 +2,7 @@
 use Prim.Native.Nat.{ℕ, zero, suc, _+_, _-_, _≤_, _<_}
 use mathlib.Core.Path.{_≡_, refl, sym, ap, _∙_}
 use mathlib.Core.List.{List, [], _∷_, _++_, append-assoc}
-use mathlib.Core.Bool.{true}
+use mathlib.Core.Bool.{true, _&&_}
 use native.Mathlib.Omega.{arith}
 use lib.ListN.{length, take, drop, length-append, length-take, length-drop}
 use lib.Seq.{take-at, drop-at, drop-drop}
@@ -13,7 +13,8 @@ use Rattle.octets.specs.Bytes.{isPlain}
 use Rattle.octets.proofs.Tests.{choice, by-test, split}
 use Rattle.octets.proofs.Buffers.{length-zeros}
 use Rattle.board.specs.declared.Found.the-variants.{At, Nothing}
-use Rattle.board.specs.Files.{File, sizeOf, fileAt, filesOf, unused, labels, distinct, find, isAt}
+use Rattle.board.specs.Files.{File, sizeOf, fileAt, filesOf, unused, labels, find, isAt}
+use Rattle.board.specs.Index.{entry, namesEach, isIndex}
 use Rattle.board.specs.Soundness.{isContent, holdsFiles, soundMemory}
 use Rattle.board.proofs.Layouts.{layout, AllValid, past, parse, layout-unused, holds, count-files, print, valid, past-zero, past-unused}
 use Rattle.board.proofs.Contents.{plain-content}
@@ -111,6 +112,15 @@ module _ (l t : ℕ) (m : List ℕ) (size : ℕ) (g : length m ≡ size) where
       ))
       (λ q. (v .0, put-valid fs (at + 11 + length (f .body)) start (v .1) b (rw q at h)))
 
+  -- every file stays where it was
+  put-names : (p : List ℕ) (fs : List File) (at start : ℕ) → find l t fs at ≡ At start size → namesEach p (putIn fs l t m) at ≡ namesEach p fs at
+  unfolding find putIn namesEach
+  put-names p [] at start h = refl
+  put-names p (f ∷ fs) at start h =
+      choice (λ (x : List File). namesEach p x at ≡ (entry p (f .head ! 0) is at && namesEach p fs (at + 11 + length (f .body)))) (isAt l t (f .head))
+      (λ q. rw (g ∙ sym (found-size {a = at + 11} {c = start} (rw q at h))))
+      (λ q. rw (put-names p fs (at + 11 + length (f .body)) start (rw q at h)))
+
 -- ---- a message in memory
 
 -- a message that is put where a file was found, in a memory that holds files as it has to
@@ -154,9 +164,15 @@ module _ (n : ℕ) (m : List ℕ) (ok : holdsFiles n m ≡ true) (l t start size
       ap (holdsFiles n) new-image ∙ ap (λ (k : ℕ). holdsFiles k (layout files (past n m))) new-count
       ∙ holds files (past n m) new-valid ∙ past-zero n m ok
 
-  -- the labels are those before
-  pub holding-labels : labels (filesOf n (holding m start size msg)) ≡ labels (filesOf n m)
-  holding-labels = ap labels holding-files ∙ put-labels (filesOf n m) l t (content size msg)
+  -- an index stays what it was
+  pub holding-index : (p : List ℕ) → isIndex p (filesOf n (holding m start size msg)) ≡ isIndex p (filesOf n m)
+  unfolding isIndex
+  holding-index p =
+      rw (
+        holding-files,
+        put-names l t (content size msg) size content-length p (filesOf n m) 0 start found,
+        put-labels (filesOf n m) l t (content size msg),
+      )
 
 -- ---- memory's length, whatever it holds
 
@@ -198,5 +214,4 @@ holding-sound n m s l t start size e msg h p =
       long = rw (holding-length l t n m start size msg e h) (w .long);
       few = w .few;
       held = holding-holds n m (w .held) l t start size e msg h p;
-      apart = ap distinct (holding-labels n m (w .held) l t start size e msg h p) ∙ w .apart;
     })

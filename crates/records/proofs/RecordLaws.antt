@@ -4,7 +4,7 @@ use mathlib.Core.Path.{_≡_, refl, sym, ap, ap₂, _∙_}
 use mathlib.Core.List.{List, [], _∷_, _++_}
 use mathlib.Core.Bool.{Bool, true, false, _||_}
 use native.Mathlib.Omega.{arith}
-use lib.ListN.{length, take, drop, length-append, length-drop}
+use lib.ListN.{length, take, drop, set, length-append, length-drop}
 use borrow.Author.Tests.{le-leb, leb-true, eqb-true, eqb-false}
 use Rattle.octets.specs.Choice.{if_then_else_, _is_, _≤?_, between, _!_}
 use Rattle.octets.specs.Hex.{isHex2, hex2, isHex4, hex4, inHex4}
@@ -13,11 +13,13 @@ use Rattle.octets.proofs.Tests.{by-test, never, split}
 use Rattle.octets.proofs.Digits.{isHex4-inHex4, hex4-inHex4}
 use Rattle.octets.proofs.Buffers.{eleven, length-zeros}
 use Rattle.board.specs.Files.{STRING, FILES, File, sizeOf, filesOf, unused, labels, distinct}
+use Rattle.board.specs.Index.{FIRST-LABEL, isIndex, noEntries, entered, indexOf}
 use Rattle.board.specs.Soundness.{isLabel, isKind, isProtection, isSize, isStartCode, isStopCode, isCodes, isRecord}
 use Rattle.board.specs.Soundness.{holdsFiles, isMemory, soundMemory}
-use Rattle.board.proofs.Layouts.{layout, AllValid, parse, layout-unused, holds}
+use Rattle.board.proofs.Layouts.{layout, AllValid, parse, layout-unused, holds, valid}
 use Rattle.board.proofs.Contents.{zeros-nul, zeros-content}
 use Rattle.board.proofs.SoundParts.{memory-most, whole}
+use Rattle.board.proofs.Indexing.{index-true}
 use Rattle.records.specs.Records.{isRecords, recordsIn, labelsIn, needed, neededBy, sizeIn, stored, laid}
 
 -- ---- n records, as they have to be
@@ -211,6 +213,33 @@ new-length (suc n) room d r h =
     rw (length-append, length-append, stored-length d (r .0) v, length-zeros, i)
     (omega (arith, g .inside))
 
+-- they are the files of the memory that is laid
+new-files : (n room : ℕ) (d : List ℕ) → Records n d → needed n d ≤ room → room ≤ 32768 → filesOf n (laid n room d) ≡ newOf n room d
+new-files n room d r h l =
+    let y = zeros (roomAfter n room d) in
+    ap (filesOf n) (laid-layout n room d) ∙ ap (λ (k : ℕ). filesOf k (layout (newOf n room d) y)) (new-count n room d)
+    ∙ parse (newOf n room d) y (new-valid n room d r h l)
+
+-- their places, put into an index
+unfoldable pub placedIn : ℕ → ℕ → List ℕ → ℕ → List ℕ → List ℕ
+placedIn zero room d place p = p
+placedIn (suc n) room d place p =
+    placedIn n (room - (11 + sizeIn room d)) (drop 11 d) (place + 11 + sizeIn room d) (set p (d ! 0 - FIRST-LABEL) place)
+
+new-placed : (n room : ℕ) (d : List ℕ) → Records n d → (place : ℕ) (p : List ℕ) → placedIn n room d place p ≡ entered (newOf n room d) place p
+unfolding placedIn newOf entered
+new-placed zero room d r place p = refl
+new-placed (suc n) room d r place p =
+    let v = sizeIn room d in
+    let fs = newOf n (room - (11 + v)) (drop 11 d) in
+    new-placed n (room - (11 + v)) (drop 11 d) (r .2) (place + 11 + v) (set p (d ! 0 - FIRST-LABEL) place)
+    ∙ ap₂ (λ (k l : ℕ). entered fs (place + 11 + k) (set p (l - FIRST-LABEL) place)) (sym (length-zeros v)) (sym (stored-start d (r .0) v .0))
+
+-- that is the index of the new memory
+pub room-index : (n room : ℕ) (d : List ℕ) → Records n d → needed n d ≤ room → room ≤ 32768 → placedIn n room d 0 noEntries ≡ indexOf n (laid n room d)
+unfolding indexOf
+room-index n room d r h l = rw (new-files n room d r h l) (new-placed n room d r 0 noEntries)
+
 -- what they leave is what no file takes
 pub room-unused : (n room : ℕ) (d : List ℕ) → Records n d → needed n d ≤ room → room ≤ 32768 → roomAfter n room d ≡ unused n (laid n room d)
 room-unused n room d r h l =
@@ -250,17 +279,16 @@ module _ (d : List ℕ) (ok : isRecords FILES d ≡ true) (room : ℕ) (h : need
 
     -- their labels are the records'
     pub laid-labels : labels (filesOf (recordsIn d) (laid (recordsIn d) room d)) ≡ labelsIn (recordsIn d) d
-    laid-labels =
-        let p = ap (λ (k : ℕ). filesOf k (layout files rest)) (new-count n room d) ∙ parse files rest files-valid in
-        ap labels (ap (filesOf n) (laid-layout n room d) ∙ p) ∙ new-labels n room d listed
+    laid-labels = ap labels (new-files n room d listed h (memory-most room l)) ∙ new-labels n room d listed
 
-    -- so the new memory is sound where the labels are distinct
-    pub laid-sound : distinct (labelsIn (recordsIn d) d) ≡ true → soundMemory (recordsIn d) (laid (recordsIn d) room d) ≡ true
-    laid-sound f =
+    -- so the new memory is sound
+    pub laid-sound : soundMemory (recordsIn d) (laid (recordsIn d) room d) ≡ true
+    laid-sound =
         whole n (laid n room d)
-        (record {
-          long = rw laid-length l;
-          few = le-leb n FILES (records-of FILES d ok .0);
-          held = laid-holds;
-          apart = ap distinct laid-labels ∙ f;
-        })
+        (record { long = rw laid-length l; few = le-leb n FILES (records-of FILES d ok .0); held = laid-holds })
+
+    -- and where the labels are distinct, its index is true
+    pub laid-index : distinct (labelsIn (recordsIn d) d) ≡ true →
+        isIndex (indexOf (recordsIn d) (laid (recordsIn d) room d)) (filesOf (recordsIn d) (laid (recordsIn d) room d)) ≡ true
+    unfolding indexOf
+    laid-index f = index-true (filesOf n (laid n room d)) (valid n (laid n room d) laid-holds) (ap distinct laid-labels ∙ f)

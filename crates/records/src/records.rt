@@ -1,4 +1,6 @@
 // "a list of 0 to 64 records": whether it is refused, and the files that it makes.
+use crate::Kept;
+use crate::labels::labels_distinct;
 use crate::numbers::BAD_RECORD;
 use crate::numbers::LABEL_TWICE;
 use crate::numbers::NO_ROOM;
@@ -6,7 +8,8 @@ use board::files::FILES;
 use board::files::RECORD;
 use board::files::SIZE;
 use board::files::size_at;
-use board::labels::labels_distinct;
+use board::index::NOWHERE;
+use board::index::slot;
 use board::soundness::is_record;
 use buffers::copying::copy_at;
 use buffers::copying::zero_at;
@@ -110,15 +113,17 @@ fn amount(rest: usize) -> u16
     rest as u16
 }
 
-// n files with empty contents; "Unused memory stays unused.", and how much it is, is answered.
-pub fn lay(m: &mut [u8], d: &[u8], n: usize) -> u16
+// n files with empty contents; "Unused memory stays unused.", and how much it is, is answered, with the place of each file.
+pub fn lay(m: &mut [u8], d: &[u8], n: usize) -> Kept
     requires { ⌜ Listed (now m) (now d) n ⌝ }
     ensures { λ r. ⌜ Laid (now (m .entry)) (now (d .entry)) n (now (m .exit)) r ⌝ }
 {
+    let mut places = [NOWHERE; 95];
     let mut place: usize = 0;
     let mut at: usize = 0;
     let mut left = n;
     while 0 < left {
+        places[slot(d[at])] = place as u16;
         let size = size_in(m.len() - place, d, at);
         let next = at + RECORD;
         lay_file(m, place, size, &d[at..next]);
@@ -128,7 +133,10 @@ pub fn lay(m: &mut [u8], d: &[u8], n: usize) -> u16
     }
     let rest = m.len() - place;
     zero_at(m, place, rest);
-    amount(rest)
+    Kept {
+        unused: amount(rest),
+        places,
+    }
 }
 
 // Why a list is refused in so much room: 25, 26, 27, or 0 where it is not.
@@ -139,7 +147,7 @@ pub fn refusal(d: &[u8], room: usize) -> u8
         return BAD_RECORD;
     }
     let n = d.len() / RECORD;
-    if !labels_distinct(d, n, false) {
+    if !labels_distinct(d, n) {
         return LABEL_TWICE;
     }
     if room < needed(d, n) {

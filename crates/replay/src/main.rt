@@ -198,6 +198,31 @@ fn number(n: u64) {
     space();
 }
 
+fn high_byte(n: u16) -> u8 {
+    (n / 256) as u8
+}
+
+fn low_byte(n: u16) -> u8 {
+    (n % 256) as u8
+}
+
+// As with `flush`: a callee that takes an array asks no proof of its length.
+fn print_pairs(text: &[u8; 190]) {
+    string(text);
+}
+
+// The places of the labels as one string, two bytes each.
+fn print_places(places: &[u16; 95]) {
+    let mut text = [0u8; 190];
+    let mut i: usize = 0;
+    while i < 95 {
+        text[2 * i] = high_byte(places[i]);
+        text[2 * i + 1] = low_byte(places[i]);
+        i += 1;
+    }
+    print_pairs(&text);
+}
+
 fn print_settings(s: Settings) {
     number(s.hour as u64);
     number(s.minute as u64);
@@ -210,6 +235,8 @@ fn print_settings(s: Settings) {
     number(s.own as u64);
     number(s.files as u64);
     number(s.unused as u64);
+    print_places(&s.places);
+    space();
 }
 
 fn print_tally(t: Tally) {
@@ -228,11 +255,23 @@ fn print_answer(r: Answer) {
     print_settings(next);
 }
 
-// The settings string: a byte for each of the ten settings, two for the unused amount.
-const SETTINGS: usize = 12;
+// The settings string: a byte for each of the ten settings, two for the unused amount and for each label's place.
+const SETTINGS: usize = 202;
+
+fn places(set: &[u8]) -> [u16; 95]
+    requires { ⌜ 202 ≤ length (now set) ⌝ }
+{
+    let mut places = [0u16; 95];
+    let mut i: usize = 0;
+    while i < 95 {
+        places[i] = two(set[12 + 2 * i], set[12 + 2 * i + 1]);
+        i += 1;
+    }
+    places
+}
 
 fn settings(set: &[u8]) -> Settings
-    requires { ⌜ 12 ≤ length (now set) ⌝ }
+    requires { ⌜ 202 ≤ length (now set) ⌝ }
 {
     Settings {
         hour: set[0],
@@ -246,6 +285,7 @@ fn settings(set: &[u8]) -> Settings
         own: set[8],
         files: set[9],
         unused: two(set[10], set[11]),
+        places: places(set),
     }
 }
 

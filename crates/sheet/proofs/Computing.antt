@@ -2,6 +2,7 @@
 use Rattle.dates.specs.Calendar.{february, monthLength, isDate}
 use Rattle.board.specs.Settings.{inRange}
 use Rattle.board.specs.Files.{sizeOf, filesOf, heads, used, unused, labels, distinct, isAt, find}
+use Rattle.board.specs.Index.{entry, namesEach, namesNoOther, isIndex, entered, indexOf}
 use Rattle.board.specs.Soundness.{isLabel, isKind, isProtection, isSize, isStartCode, isStopCode, isCodes, isRecord, isContent, isFileAt, holdsFiles, soundMemory, keepsTrue, sound}
 use Rattle.effects.specs.Reply.{replyOf}
 use Rattle.commands.specs.Commands.{holding, putMessage, writeFile, getContent, readFile}
@@ -21,6 +22,7 @@ unfolding
     february monthLength isDate
     inRange
     sizeOf filesOf heads used unused labels distinct isAt find
+    entry namesEach namesNoOther isIndex entered indexOf
     isLabel isKind isProtection isSize isStartCode isStopCode isCodes isRecord isContent isFileAt holdsFiles soundMemory keepsTrue sound
     replyOf
     holding putMessage writeFile getContent readFile

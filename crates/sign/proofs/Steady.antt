@@ -1,6 +1,6 @@
 -- What blocks and a whole run keep: own type, every length, a sound board sound; and a fresh board is sound.
 use Prim.Native.Nat.{ℕ, _+_, _≤_}
-use mathlib.Core.Path.{_≡_, refl, ap, _∙_}
+use mathlib.Core.Path.{_≡_, refl, sym, ap, _∙_}
 use mathlib.Core.List.{List, [], _∷_}
 use mathlib.Core.Bool.{true, false, not}
 use native.Mathlib.Omega.{arith}
@@ -8,7 +8,7 @@ use lib.ListN.{length}
 use borrow.Author.Tests.{ltb-false, not-false, not-true}
 use Rattle.octets.specs.Choice.{_is_, _<?_}
 use Rattle.octets.specs.Buffer.{zeros, overlay}
-use Rattle.octets.proofs.Tests.{by-test, choice, split}
+use Rattle.octets.proofs.Tests.{by-test, choice, never, split}
 use Rattle.octets.proofs.Buffers.{length-zeros}
 use Rattle.buffers.proofs.Splices.{overlay-none, length-overlay}
 use Rattle.header.specs.Addressing.{isOwnType, addressed}
@@ -16,13 +16,15 @@ use Rattle.body.specs.Body.{Block, isRead}
 use Rattle.body.proofs.Plain.{Plain}
 use Rattle.reading.specs.Reading.{Reading, refused, frame, read}
 use Rattle.reading.proofs.FrameLaws.{read-plain}
-use Rattle.board.specs.Settings.{inRange}
+use Rattle.board.specs.Settings.{inRange, withFiles}
 use Rattle.board.specs.Files.{filesOf, used, unused, labels, distinct}
+use Rattle.board.specs.Index.{ENTRIES, isIndex, entered}
 use Rattle.board.specs.Soundness.{holdsFiles, isMemory, sound}
 use Rattle.board.specs.declared.Settings.{Settings}
 use Rattle.board.proofs.Ranges.{first-date}
 use Rattle.board.proofs.Contents.{zeros-nul}
-use Rattle.board.proofs.Inside.{sound-unused}
+use Rattle.board.proofs.Inside.{sound-unused, sound-index, sound-distinct}
+use Rattle.board.proofs.Indexing.{index-true, index-one}
 use Rattle.board.proofs.SoundParts.{whole, kept-true, sound-whole}
 use Rattle.effects.specs.Effects.{board}
 use Rattle.commands.specs.Blocks.{runBlock}
@@ -151,7 +153,7 @@ SoundIfMade x = x .answer .number ≡ 0 → sound (x .answer .settings) (x .memo
 -- a fresh board that was made is sound
 pub fresh-sound : (t : ℕ) (m : List ℕ) → fresh t m .answer .number ≡ 0 →
     sound (fresh t m .answer .settings) (fresh t m .memory) ≡ true
-unfolding fresh inRange holdsFiles labels filesOf distinct used unused
+unfolding fresh inRange holdsFiles labels filesOf distinct used unused entered
 fresh-sound t m =
     choice SoundIfMade (not (isOwnType t)) (λ e z. absurd (omega arith)) (λ e.
     choice SoundIfMade (not (isMemory (length m))) (λ g z. absurd (omega arith)) (λ g z.
@@ -162,26 +164,57 @@ fresh-sound t m =
       ranged = rw first-date (not-false (isOwnType t) e);
       filed =
           whole 0 (zeros (length m))
-          (record { long = rw l (not-false (isMemory (length m)) g); few = refl; held = zeros-nul (length m); apart = refl });
-      kept = kept-true s (zeros (length m)) (omega (arith, l));
+          (record { long = rw l (not-false (isMemory (length m)) g); few = refl; held = zeros-nul (length m) });
+      kept = kept-true s (zeros (length m)) (record { unused = omega (arith, l); index = index-true [] tt refl });
     })))
 
--- ---- the unused amount
+-- ---- what the settings keep of memory
 
--- request 3, "It always equals the memory length less, for each file, its record and its counted size.": after any run that is not
--- refused because its board is not sound
-pub run-unused : (s : Settings) (m o f : List ℕ) → (run s m o f .answer .number ≡ 1 → ⊥) →
-    run s m o f .answer .settings .unused ≡ unused (run s m o f .answer .settings .files) (run s m o f .memory)
-run-unused s m o f n =
-    by-test (sound s m)
-    (λ e. sound-unused (run s m o f .answer .settings) (run s m o f .memory) (run-sound s m o f e))
-    (λ e. absurd (n (ap (λ (x : Outcome). x .answer .number) (run-unsound s m o f e))))
+-- after any run that is not refused because its board is not sound
+module _ (s : Settings) (m o f : List ℕ) (n : run s m o f .answer .number ≡ 1 → ⊥) where
+  left-sound : sound (run s m o f .answer .settings) (run s m o f .memory) ≡ true
+  left-sound =
+      by-test (sound s m) (run-sound s m o f) (λ e. absurd (n (ap (λ (x : Outcome). x .answer .number) (run-unsound s m o f e))))
+
+  -- request 3, "It always equals the memory length less, for each file, its record and its counted size."
+  pub run-unused : run s m o f .answer .settings .unused ≡ unused (run s m o f .answer .settings .files) (run s m o f .memory)
+  run-unused = sound-unused (run s m o f .answer .settings) (run s m o f .memory) left-sound
+
+  -- request 7: the index is true, which ""$" keeps"
+  pub run-index : isIndex (run s m o f .answer .settings .places) (filesOf (run s m o f .answer .settings .files) (run s m o f .memory)) ≡ true
+  run-index = sound-index (run s m o f .answer .settings) (run s m o f .memory) left-sound
 
 -- and after any fresh board that was made
 pub fresh-unused : (t : ℕ) (m : List ℕ) → fresh t m .answer .number ≡ 0 →
     fresh t m .answer .settings .unused ≡ unused (fresh t m .answer .settings .files) (fresh t m .memory)
 fresh-unused t m e = sound-unused (fresh t m .answer .settings) (fresh t m .memory) (fresh-sound t m e)
 
--- "1 when the stored amount is wrong": whatever else the board is, and whatever the frame
+pub fresh-index : (t : ℕ) (m : List ℕ) → fresh t m .answer .number ≡ 0 →
+    isIndex (fresh t m .answer .settings .places) (filesOf (fresh t m .answer .settings .files) (fresh t m .memory)) ≡ true
+fresh-index t m e = sound-index (fresh t m .answer .settings) (fresh t m .memory) (fresh-sound t m e)
+
+-- ---- refused with 1, whatever else the board is, and whatever the frame
+
+-- where the board cannot be sound
+run-not : (s : Settings) (m o f : List ℕ) → (sound s m ≡ true → ⊥) → run s m o f ≡ untouched 1 s m o
+run-not s m o f n = by-test (sound s m) (λ e. absurd (n e)) (run-unsound s m o f)
+
+-- request 3, "1 when the stored amount is wrong"
 pub run-wrong : (s : Settings) (m o f : List ℕ) → (s .unused ≡ unused (s .files) m → ⊥) → run s m o f ≡ untouched 1 s m o
-run-wrong s m o f n = by-test (sound s m) (λ e. absurd (n (sound-unused s m e))) (λ e. run-unsound s m o f e)
+run-wrong s m o f n = run-not s m o f (λ e. n (sound-unused s m e))
+
+-- request 7, "1 when it is wrong": an index that is not true
+pub run-wrong-index : (s : Settings) (m o f : List ℕ) → isIndex (s .places) (filesOf (s .files) m) ≡ false → run s m o f ≡ untouched 1 s m o
+run-wrong-index s m o f n = run-not s m o f (λ e. never (sym (sound-index s m e) ∙ n))
+
+-- two files of one label, whatever the index
+pub run-twice : (s : Settings) (m o f : List ℕ) → distinct (labels (filesOf (s .files) m)) ≡ false → run s m o f ≡ untouched 1 s m o
+run-twice s m o f n = run-not s m o f (λ e. never (sym (sound-distinct s m e) ∙ n))
+
+-- of the boards that differ in nothing but the index, all but the sound one
+pub run-other-index : (s : Settings) (m o f : List ℕ) → sound s m ≡ true → length (s .places) ≡ ENTRIES →
+    (p : List ℕ) → length p ≡ ENTRIES → (p ≡ s .places → ⊥) →
+    run (withFiles s (s .files) (s .unused) p) m o f ≡ untouched 1 (withFiles s (s .files) (s .unused) p) m o
+run-other-index s m o f e l p k n =
+    let t = withFiles s (s .files) (s .unused) p in
+    run-not t m o f (λ g. n (index-one p (s .places) (filesOf (s .files) m) k l (sound-index t m g) (sound-index s m e)))

@@ -3,6 +3,7 @@ use crate::Made;
 use crate::numbers::WRONG_MEMORY;
 use crate::numbers::WRONG_TYPE;
 use board::Settings;
+use board::index::NOWHERE;
 use board::setting::FORMAT_S;
 use board::setting::OFF;
 use board::soundness::is_memory;
@@ -29,11 +30,13 @@ fn unmade(number: u8) -> Made
             own: 0,
             files: 0,
             unused: 0,
+            places: [0; 95],
         },
     }
 }
 
-// "00:00, 01 01 00, format S, speaker off, address 00, no files"; request 3: all of memory is unused.
+// "00:00, 01 01 00, format S, speaker off, address 00, no files"; request 3: all of memory is unused; request 7: no label has a
+// record.
 fn made(own: u8, unused: u16) -> Made
     ensures { λ r. ⌜ r ≡ madeAs 0 (freshSettings own unused) ⌝ }
 {
@@ -51,6 +54,7 @@ fn made(own: u8, unused: u16) -> Made
             own,
             files: 0,
             unused,
+            places: [NOWHERE; 95],
         },
     }
 }

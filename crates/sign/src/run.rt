@@ -194,13 +194,14 @@ pub fn run(s: Settings, m: &mut [u8], out: &mut [u8], bytes: &[u8]) -> Answer
         return untouched(s, REPLY_TOO_SHORT);
     }
     let mut room = [0u8; 8192];
+    // An answer is handed back where it is made: as the value of the match its settings would be copied once more.
     match read(bytes, &mut room) {
-        Read::Refused(number) => untouched(s, number),
-        Read::Standard { header, body } => run_frame(s, m, out, bytes, header, body),
+        Read::Refused(number) => return untouched(s, number),
+        Read::Standard { header, body } => return run_frame(s, m, out, bytes, header, body),
         Read::Printable {
             length,
             header,
             body,
-        } => run_frame(s, m, out, &room[..length], header, body),
+        } => return run_frame(s, m, out, &room[..length], header, body),
     }
 }

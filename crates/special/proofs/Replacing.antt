@@ -11,11 +11,13 @@ use borrow.Author.Tests.{ne-eqb}
 use lib.ListN.{length}
 use Rattle.board.specs.Settings.{withFiles}
 use Rattle.board.specs.Files.{unused}
+use Rattle.board.specs.Index.{indexOf}
 use Rattle.board.specs.Soundness.{sound}
 use Rattle.board.specs.declared.Settings.{Settings}
 use Rattle.board.proofs.Inside.{sound-most}
 use Rattle.records.specs.Records.{refusal, laid}
 use Rattle.records.specs.Filing.{Listed, Laid}
+use Rattle.records.specs.declared.Kept.{Kept}
 use Rattle.records.proofs.RecordLaws.{records-of}
 use Rattle.records.proofs.Refusing.{taken}
 use Rattle.effects.specs.Effects.{board, done, refuse}
@@ -31,7 +33,10 @@ module _ (s : Settings) (m d : List ℕ) where
   configure-not n = rw (ne-eqb (refusal d (length m)) 0 n)
 
   configure-done : refusal d (length m) ≡ 0 → configure (board s m) d
-      ≡ done (board (withFiles s (length d / 11) (unused (length d / 11) (laid (length d / 11) (length m) d))) (laid (length d / 11) (length m) d))
+      ≡ done
+      (board
+      (withFiles s (length d / 11) (unused (length d / 11) (laid (length d / 11) (length m) d)) (indexOf (length d / 11) (laid (length d / 11) (length m) d)))
+      (laid (length d / 11) (length m) d))
   unfolding configure
   configure-done e = rw e
 
@@ -49,8 +54,8 @@ module _ (m d : List ℕ) (k : ℕ) (e : k ≡ refusal d (length m)) where
     pub replace-count : Fits w8 (length d / 11)
     replace-count = record { fits = omega (arith, records-of 64 d (taken d (length m) (sym e ∙ z) .good) .0) }
 
-    pub replace-done : (m₁ : List ℕ) (u : ℕ) → Laid m d (length d / 11) m₁ u → (s t : Settings) (r : Done) →
-        t ≡ withFiles s (length d / 11) u → r ≡ doneAs 0 t 0 → Acts (configure (board s m) d) r m₁
-    replace-done m₁ u g s t r j q = rw (configure-done s m d (sym e ∙ z), ← g .left, ← g .stored, ← j) (acts-done t m₁ r q)
+    pub replace-done : (m₁ : List ℕ) (a : Kept) → Laid m d (length d / 11) m₁ a → (s t : Settings) (r : Done) →
+        t ≡ withFiles s (length d / 11) (a .unused) (a .places) → r ≡ doneAs 0 t 0 → Acts (configure (board s m) d) r m₁
+    replace-done m₁ a g s t r j q = rw (configure-done s m d (sym e ∙ z), ← g .left, ← g .noted, ← g .stored, ← j) (acts-done t m₁ r q)
 
 pub ruleset replacing = (replace-not, replace-listed, replace-count, replace-done, needs)

@@ -22,6 +22,7 @@ pub fn configure(s: Settings, m: &mut [u8], d: &[u8]) -> Done
         return quiet(s, number);
     }
     let n = d.len() / RECORD;
-    let unused = lay(m, d, n);
-    quiet(s.with_files(n as u8, unused), 0)
+    let kept = lay(m, d, n);
+    let places = kept.places;
+    quiet(s.with_files(n as u8, kept.unused, places), 0)
 }

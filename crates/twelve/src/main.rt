@@ -221,6 +221,18 @@ fn told(name: &[u8], equal: bool, otherwise: &[u8]) {
     }
 }
 
+// Whether two indices are entry by entry the same.
+fn same_places(a: &[u16; 95], b: &[u16; 95]) -> bool {
+    let mut i: usize = 0;
+    while i < 95 {
+        if a[i] != b[i] {
+            return false;
+        }
+        i += 1;
+    }
+    true
+}
+
 fn same_settings(a: Settings, b: Settings) -> bool {
     let x = [
         a.hour,
@@ -246,7 +258,7 @@ fn same_settings(a: Settings, b: Settings) -> bool {
         b.own,
         b.files,
     ];
-    same(&x, &y) && a.unused == b.unused
+    same(&x, &y) && a.unused == b.unused && same_places(&a.places, &b.places)
 }
 
 // A content without its zeros.

@@ -10,6 +10,7 @@ use crate::bytes::{
 };
 use crate::files::MOST_FILES;
 use crate::hex::byte_digits;
+use crate::index::{FIRST_LABEL, LAST_LABEL};
 use crate::record::{Kind, Record, RECORD_LENGTH};
 use crate::sum::checksum;
 
@@ -61,6 +62,8 @@ const LONG_MESSAGE: usize = 2_000;
 /// What is known of a board while blocks are planned for it.
 pub struct Sight {
     pub records: Vec<Record>,
+    /// Those that the board had when the frame began.
+    pub former: Vec<Record>,
     pub memory_length: usize,
 }
 
@@ -72,7 +75,8 @@ impl Sight {
     }
 }
 
-/// Blocks for a board: most of them do something, some are refused.
+/// Blocks for a board: most of them do something, some are refused, and the last
+/// often looks for a file that is not there.
 pub fn for_board(dice: &mut Dice, sight: &mut Sight, count: usize) -> Vec<Plan> {
     let share = dice.one_of([0, 5, 15, 15, 40]);
     let mut plans = Vec::new();
@@ -80,6 +84,8 @@ pub fn for_board(dice: &mut Dice, sight: &mut Sight, count: usize) -> Vec<Plan> 
         let is_last = place == count;
         let plan = if dice.chance(share) {
             refused(dice, sight, is_last)
+        } else if is_last && dice.chance(18) {
+            no_file(dice, sight, is_last)
         } else {
             done(dice, sight, is_last, place == 1)
         };
@@ -198,14 +204,22 @@ fn read_code(kind: Kind) -> u8 {
     }
 }
 
+/// Any file; of many often the first or the last.
 fn any_record(dice: &mut Dice, sight: &Sight) -> Option<Record> {
-    sight.records.get(dice.below(sight.records.len())).copied()
+    let count = sight.records.len();
+    let any = dice.below(count);
+    let place = if sight.is_crowded() && dice.chance(50) {
+        dice.one_of([0, count - 1])
+    } else {
+        any
+    };
+    sight.records.get(place).copied()
 }
 
 /// A read of a file that exists or of a function.
 fn read(dice: &mut Dice, sight: &Sight) -> Plan {
     match any_record(dice, sight) {
-        Some(record) if dice.chance(40) => Plan::new(read_code(record.kind), vec![record.label]),
+        Some(record) if dice.chance(60) => Plan::new(read_code(record.kind), vec![record.label]),
         _ => {
             let label = dice.one_of([TIME, SPEAKER, TIME_FORMAT, DATE, CONFIGURATION, POOL]);
             Plan::new(READ_SPECIAL, vec![label])
@@ -368,21 +382,59 @@ fn malformed(dice: &mut Dice, sight: &Sight, is_last: bool) -> Plan {
     }
 }
 
-/// 23: a label that no file has, or that a file of the other type has.
+/// 23: a message to a file that is not there, or a read of it.
 fn no_file(dice: &mut Dice, sight: &Sight, is_last: bool) -> Plan {
-    let kind = dice.one_of([Kind::Text, Kind::String]);
-    let free = new_label(dice, &sight.records);
-    let mut label = dice.one_of([free, free, b'0', b'?', LOWEST_DATA, 0x7F, 0xFF]);
-    if let Some(record) = any_record(dice, sight) {
-        if record.kind != kind && dice.chance(50) {
-            label = record.label;
-        }
-    }
-    if is_last && dice.chance(50) {
+    let (kind, label) = file_of_none(dice, sight);
+    if is_last && dice.chance(70) {
         return Plan::new(read_code(kind), vec![label]);
     }
     let length = dice.below(12);
     to_file(dice, kind, label, length)
+}
+
+/// A type and a label that no file has together: the label of a file of the
+/// other type, of a file that a list took away, of none, or a byte that is no
+/// label.
+fn file_of_none(dice: &mut Dice, sight: &Sight) -> (Kind, u8) {
+    let any_kind = dice.one_of([Kind::Text, Kind::String]);
+    let free = new_label(dice, &sight.records);
+    let is_here = |gone: &Record| sight.records.iter().any(|here| here.label == gone.label);
+    let of_file = match dice.below(12) {
+        0 | 1 => any_record(dice, sight).map(|here| (here.kind.other(), here.label)),
+        2..=5 => one_where(dice, &sight.former, |gone| !is_here(gone)),
+        6 | 7 => Some((any_kind, dice.one_of([b'0', b'?']))),
+        8 | 9 => Some((any_kind, below_labels(dice))),
+        10 => Some((any_kind, above_labels(dice, sight))),
+        _ => None,
+    };
+    of_file.unwrap_or((any_kind, free))
+}
+
+/// The type and the label of one of the records that are meant.
+fn one_where(
+    dice: &mut Dice,
+    records: &[Record],
+    is_meant: impl Fn(&Record) -> bool,
+) -> Option<(Kind, u8)> {
+    let meant: Vec<&Record> = records.iter().filter(|record| is_meant(record)).collect();
+    let one = meant.get(dice.below(meant.len()))?;
+    Some((one.kind, one.label))
+}
+
+/// A data byte below all labels.
+fn below_labels(dice: &mut Dice) -> u8 {
+    let any = dice.byte(LOWEST_DATA, FIRST_LABEL - 1);
+    dice.one_of([LOWEST_DATA, FIRST_LABEL - 1, any])
+}
+
+/// A byte above all labels, often the first file's label with one bit more.
+fn above_labels(dice: &mut Dice, sight: &Sight) -> u8 {
+    let any = dice.byte(LAST_LABEL + 1, 0xFF);
+    let of_a_file = sight
+        .records
+        .first()
+        .map_or(any, |first| first.label | 0x80);
+    dice.one_of([LAST_LABEL + 1, 0xFF, any, of_a_file])
 }
 
 /// 24: a message longer than the smallest file; without one, 23.

@@ -4,11 +4,14 @@
 use super::amounts;
 use super::dates;
 use super::dice::Dice;
+use super::indices;
 use crate::bytes::NUL;
 use crate::files::{walk, File, MOST_FILES};
 use crate::header::is_own_type;
+use crate::index::{FIRST_LABEL, LAST_LABEL};
 use crate::record::{Kind, Record, LAST_TIME_CODE, LONGEST_STRING, RECORD_LENGTH};
 use crate::right_amount::right_amount;
+use crate::right_index::right_index;
 use crate::settings::{Settings, FIELDS, MILITARY_FORMAT, STANDARD_FORMAT};
 use crate::soundness::{LEAST_MEMORY, MOST_MEMORY};
 
@@ -57,23 +60,33 @@ pub fn small_or_empty(dice: &mut Dice) -> Board {
     }
 }
 
+/// A sound board of 40 to 64 files in little more memory than they need.
+pub fn small_crowd(dice: &mut Dice) -> Board {
+    let count = crowd(dice);
+    let least = count * SMALLEST_FILE;
+    let length = dice.between(least, least + 100);
+    let records = many_records(dice, length, count);
+    board_of(dice, length, records)
+}
+
 fn board_of(dice: &mut Dice, length: usize, records: Vec<Record>) -> Board {
     let mut board = Board {
         settings: settings(dice, count_of(&records)),
         memory: memory_of(dice, length, &records),
         records,
     };
-    give_right_amount(&mut board);
+    put_right(&mut board);
     board
 }
 
-/// Gives a board the unused amount that its files leave (request 3). Where a
-/// damaged board's records cannot be followed no amount is right, and the one
-/// that was there stays.
-fn give_right_amount(board: &mut Board) {
+/// Gives a board the unused amount that its files leave (request 3) and the
+/// index that is true of them (request 7). Where a damaged board's records
+/// cannot be followed no amount is right, and the one that was there stays.
+pub fn put_right(board: &mut Board) {
     if let Some(unused) = right_amount(&board.memory, board.settings.files) {
         board.settings.unused = unused;
     }
+    board.settings.index = right_index(&board.memory, board.settings.files);
 }
 
 /// The memory length and the records of a board of 40 to 64 files: most times
@@ -89,7 +102,7 @@ fn crowded(dice: &mut Dice) -> (usize, Vec<Record>) {
         _ => dice.between(least, 2 * least),
     };
     let mut records = many_records(dice, length, count);
-    if dice.chance(60) {
+    if dice.chance(45) {
         take_rest(dice, &mut records, length);
     }
     (length, records)
@@ -263,20 +276,27 @@ fn start_code(dice: &mut Dice) -> u8 {
     dice.one_of([0x00, LAST_TIME_CODE, 0xFD, 0xFE, 0xFF, time, time])
 }
 
-/// A label of no record so far.
+/// A label of no record so far, now and then the first or the last of all.
 pub fn new_label(dice: &mut Dice, others: &[Record]) -> u8 {
     let is_free = |label: u8| {
         label != b'0' && label != b'?' && others.iter().all(|record| record.label != label)
     };
     for _ in 0..8 {
-        let any = dice.byte(0x20, 0x7E);
+        let any = dice.byte(FIRST_LABEL, LAST_LABEL);
         let letter = dice.byte(b'A', b'F');
-        let label = dice.one_of([any, letter, letter]);
+        let end = dice.one_of([FIRST_LABEL, LAST_LABEL]);
+        let label = match dice.below(12) {
+            0 | 1 => end,
+            2..=5 => any,
+            _ => letter,
+        };
         if is_free(label) {
             return label;
         }
     }
-    (0x20..=0x7E).find(|&label| is_free(label)).unwrap_or(b'A')
+    (FIRST_LABEL..=LAST_LABEL)
+        .find(|&label| is_free(label))
+        .unwrap_or(b'A')
 }
 
 /// Empty, full or something between.
@@ -294,14 +314,16 @@ pub fn message(dice: &mut Dice, length: usize) -> Vec<u8> {
     }
 }
 
-/// Damages a board in one place: its unused amount, or something else and the
-/// amount is right for that. Now and then it stays sound.
+/// Damages a board in one place: its unused amount, its index, or something else
+/// and these two are right for that. Now and then it stays sound.
 pub fn damage(dice: &mut Dice, board: &mut Board) {
-    if dice.chance(8) {
-        board.settings = amounts::wrong(dice, board.settings, board.memory.len());
-    } else {
-        damage_elsewhere(dice, board);
-        give_right_amount(board);
+    match dice.below(100) {
+        0..=7 => board.settings = amounts::wrong(dice, board.settings, board.memory.len()),
+        8..=15 => indices::make_wrong(dice, board),
+        _ => {
+            damage_elsewhere(dice, board);
+            put_right(board);
+        }
     }
 }
 
@@ -416,12 +438,12 @@ fn go_beyond(dice: &mut Dice, board: &mut Board) {
     board.records = records;
 }
 
-fn any_file(dice: &mut Dice, board: &Board) -> Option<File> {
+pub fn any_file(dice: &mut Dice, board: &Board) -> Option<File> {
     let (files, _) = walk(&board.memory, board.settings.files)?;
     files.get(dice.below(files.len())).cloned()
 }
 
-fn set(memory: &mut [u8], place: usize, value: u8) {
+pub fn set(memory: &mut [u8], place: usize, value: u8) {
     if let Some(byte) = memory.get_mut(place) {
         *byte = value;
     }

@@ -7,6 +7,7 @@ pub mod dates;
 pub mod dice;
 pub mod frames;
 pub mod full_dates;
+pub mod indices;
 pub mod reckoning;
 
 use std::io::{self, Write};
@@ -25,7 +26,7 @@ use crate::stream::{
 use crate::translation::{MOST_PRINTABLE, MOST_TRANSLATED};
 
 /// How often each call is made, in the order of [`CALLS`].
-const WEIGHTS: [usize; CALLS.len()] = [8, 62, 14, 20, 18, 18, 7, 10];
+const WEIGHTS: [usize; CALLS.len()] = [17, 136, 30, 42, 41, 39, 15, 20];
 
 /// Writes so many cases, of these calls only.
 pub fn write_cases(
@@ -100,10 +101,11 @@ fn fresh_case(dice: &mut Dice) -> Case {
 
 /// A run: most times on a sound board that the frame reaches.
 fn run_case(dice: &mut Dice) -> Case {
-    match dice.below(109) {
-        0..=56 => good_run(dice),
-        57..=73 => wrong_date_run(dice),
-        74..=82 => wrong_amount_run(dice),
+    match dice.below(156) {
+        0..=84 => good_run(dice),
+        85..=102 => wrong_date_run(dice),
+        103..=113 => wrong_amount_run(dice),
+        114..=131 => wrong_index_run(dice),
         _ => any_run(dice),
     }
 }
@@ -118,7 +120,7 @@ fn any_run(dice: &mut Dice) -> Case {
         _ => dice.between(1, 4),
     };
     let mut sketch = sketch_for(dice, &board, count);
-    if dice.chance(32) {
+    if dice.chance(38) {
         boards::damage(dice, &mut board);
     }
     let short_by = match dice.below(10) {
@@ -174,6 +176,18 @@ fn wrong_amount_run(dice: &mut Dice) -> Case {
     run_on(dice, board, count)
 }
 
+/// A run that would be good, on a board whose index is wrong: of a few files or
+/// of none most times, of many now and then.
+fn wrong_index_run(dice: &mut Dice) -> Case {
+    let mut board = match dice.below(5) {
+        0 => boards::small_crowd(dice),
+        _ => boards::small_or_empty(dice),
+    };
+    indices::make_wrong(dice, &mut board);
+    let count = dice.between(1, 4);
+    run_on(dice, board, count)
+}
+
 /// A run of a good frame that reaches the board, with a reply buffer that is
 /// long enough.
 fn run_on(dice: &mut Dice, board: boards::Board, count: usize) -> Case {
@@ -191,6 +205,7 @@ fn run_on(dice: &mut Dice, board: boards::Board, count: usize) -> Case {
 fn sketch_for(dice: &mut Dice, board: &boards::Board, count: usize) -> Sketch {
     let mut sight = Sight {
         records: board.records.clone(),
+        former: board.records.clone(),
         memory_length: board.memory.len(),
     };
     let plans = if sight.is_crowded() && dice.chance(15) {

@@ -4,12 +4,14 @@ use super::build::{after, filled, pairs, plain, summed};
 use super::Stored;
 use crate::bytes::{NUL, SOH};
 use crate::fresh::fresh;
+use crate::index::Index;
 use crate::numbers::{
     Number, BAD_BODY, BAD_HEADER, BAD_LEAD, BAD_LENGTH, BAD_LIST, BAD_PRINTABLE, DONE, LABEL_TWICE,
     MALFORMED, MESSAGE_TOO_LONG, NOT_ADDRESSED, NOT_SOUND, NO_FILE, NO_ROOM, READ_NOT_LAST,
     SHORT_REPLY_BUFFER, UNKNOWN, WRONG_MEMORY, WRONG_SUM, WRONG_TYPE,
 };
 use crate::right_amount::right_amount;
+use crate::right_index::right_index;
 use crate::run::{run, REPLY_MARGIN};
 use crate::settings::Settings;
 use crate::source;
@@ -56,7 +58,7 @@ impl Kit {
         if let Some(byte) = self.memory.get_mut(place) {
             *byte = value;
         }
-        self.with_right_amount()
+        self.put_right()
     }
 
     /// The board with one field of the settings changed.
@@ -66,35 +68,49 @@ impl Kit {
             *field = value;
         }
         self.settings = self.settings.with_fields(fields);
-        self.with_right_amount()
+        self.put_right()
     }
 
     /// The board with another memory.
     pub fn with_memory(mut self, memory: Vec<u8>) -> Kit {
         self.memory = memory;
-        self.with_right_amount()
+        self.put_right()
     }
 
     /// The board with another number of files told.
     pub fn with_files(mut self, files: u8) -> Kit {
         self.settings.files = files;
-        self.with_right_amount()
+        self.put_right()
     }
 
-    /// The board with the unused amount that its files leave (request 3), so
-    /// that it is unsound for its own reason alone. Where the records cannot be
-    /// followed no amount is right, and the one that was there stays.
-    fn with_right_amount(mut self) -> Kit {
+    /// The board with the unused amount that its files leave (request 3) and the
+    /// index that is true of them (request 7), so that it is unsound for its own
+    /// reason alone. Where the records cannot be followed no amount is right, and
+    /// the one that was there stays.
+    fn put_right(mut self) -> Kit {
         if let Some(unused) = right_amount(&self.memory, self.settings.files) {
             self.settings.unused = unused;
         }
-        self
+        let index = right_index(&self.memory, self.settings.files);
+        self.with_index(index)
     }
 
     /// The board with this unused amount, right or wrong.
     pub fn with_amount(mut self, unused: u16) -> Kit {
         self.settings.unused = unused;
         self
+    }
+
+    /// The board with this index, true or not.
+    pub fn with_index(mut self, index: Index) -> Kit {
+        self.settings.index = index;
+        self
+    }
+
+    /// The board with this entry for a label, right or wrong.
+    pub fn with_entry(self, label: u8, entry: u16) -> Kit {
+        let index = self.settings.index.with(label, entry);
+        self.with_index(index)
     }
 }
 

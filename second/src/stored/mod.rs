@@ -4,9 +4,12 @@
 pub mod boards;
 pub mod build;
 pub mod calendar;
+pub mod crowd;
 pub mod dates;
 pub mod days_between;
 pub mod full;
+pub mod index;
+pub mod lookups;
 pub mod outputs;
 pub mod renewals;
 pub mod unused;
@@ -40,14 +43,17 @@ impl Stored {
 }
 
 /// All fixed cases: writing, re-forming and joining first, then the boards,
-/// the full ones behind the others, then the dates of boards and their unused
-/// amounts, then the calls that reckon with dates.
+/// the full ones behind the others, then the dates of boards, their unused
+/// amounts, the files that they find and their indices, then the calls that
+/// reckon with dates.
 pub fn all() -> Vec<Stored> {
     let mut cases = outputs::all();
     cases.extend(boards::all());
     cases.extend(full::all());
     cases.extend(dates::all());
     cases.extend(unused::all());
+    cases.extend(lookups::all());
+    cases.extend(index::all());
     cases.extend(renewals::all());
     cases.extend(weekdays::all());
     cases.extend(days_between::all());

@@ -1,12 +1,16 @@
 //! What is looked for in a stream of cases, the random and the fixed ones: the
 //! ends of what document 01 allows, every command on a crowded board, the end
 //! of every month as a command and on a board, right and wrong unused amounts,
-//! and what request 6 reckons.
+//! true and wrong indices, files found and not found, and what request 6 reckons.
 
 use std::collections::{BTreeMap, BTreeSet};
 
 use crate::amounts::{amounts_of, walked, wanted_amounts, Amount};
 use crate::dates::{sorts_of, sorts_of_text, wanted_sorts, Sort};
+use crate::indices::{
+    kind_of_twins, kinds_of, laid, true_entries, twins, wanted_kinds, Entries, Kind, Laid,
+};
+use crate::lookups::{content_at, meant, sought, walked_to, wanted_lookups, Sought};
 use crate::reckoned::{shown_by, wanted as wanted_of_reckoning, Shown};
 use second::body::{Block, MOST_BLOCKS};
 use second::bytes::{
@@ -18,8 +22,10 @@ use second::files::{walk, MOST_FILES};
 use second::frame;
 use second::header::addressed;
 use second::hex::frame_digit;
+use second::index::Index;
 use second::numbers::{
-    BAD_BODY, BAD_LIST, DONE, MALFORMED, NOT_SOUND, SHORT_REPLY_BUFFER, WRONG_MEMORY, WRONG_SUM,
+    BAD_BODY, BAD_LIST, DONE, MALFORMED, MESSAGE_TOO_LONG, NOT_SOUND, NO_FILE, SHORT_REPLY_BUFFER,
+    WRONG_MEMORY, WRONG_SUM,
 };
 use second::record::{labels_are_distinct, Record, RECORD_LENGTH};
 use second::run::{run, Ran, REPLY_MARGIN};
@@ -94,6 +100,11 @@ pub enum Fact {
     /// A board with an unused amount that lies so to the right one, without or
     /// with files, all else sound and good: 0, or 1.
     BoardAmount { amount: Amount, has_files: bool },
+    /// A board with an index that lies so to the true one, without or with
+    /// files, all else sound: 0 where the frame is good, or 1.
+    BoardIndex { kind: Kind, has_files: bool },
+    /// A command that looked for such a file: found, or 23.
+    Lookup(u8, Sought),
     /// A renewal date, a weekday or the days between two dates.
     Reckoned(Shown),
 }
@@ -132,19 +143,46 @@ pub fn wanted() -> Vec<Fact> {
     wanted.extend(wanted_sorts().into_iter().map(Fact::SetDate));
     wanted.extend(wanted_sorts().into_iter().map(Fact::BoardDate));
     wanted.extend(wanted_board_amounts());
+    wanted.extend(wanted_board_indices());
+    wanted.extend(wanted_file_lookups());
     wanted.extend(wanted_of_reckoning().into_iter().map(Fact::Reckoned));
     wanted
 }
 
 /// Right amounts and every wrong one, without files and with them.
 pub fn wanted_board_amounts() -> Vec<Fact> {
-    [false, true]
+    without_and_with_files(wanted_amounts, |amount, has_files| Fact::BoardAmount {
+        amount,
+        has_files,
+    })
+}
+
+/// True indices and every kind of wrong ones, without files and with them.
+pub fn wanted_board_indices() -> Vec<Fact> {
+    without_and_with_files(wanted_kinds, |kind, has_files| Fact::BoardIndex {
+        kind,
+        has_files,
+    })
+}
+
+/// The facts of what is wanted on boards without files and on boards with them.
+fn without_and_with_files<T>(
+    wanted: impl Fn(bool) -> Vec<T>,
+    fact: impl Fn(T, bool) -> Fact,
+) -> Vec<Fact> {
+    let mut facts = Vec::new();
+    for has_files in [false, true] {
+        let wanted = wanted(has_files);
+        facts.extend(wanted.into_iter().map(|one| fact(one, has_files)));
+    }
+    facts
+}
+
+/// Every command that looks for a file, with every sort of label.
+pub fn wanted_file_lookups() -> Vec<Fact> {
+    wanted_lookups()
         .into_iter()
-        .flat_map(|has_files| {
-            wanted_amounts(has_files)
-                .into_iter()
-                .map(move |amount| Fact::BoardAmount { amount, has_files })
-        })
+        .map(|(command, sought)| Fact::Lookup(command, sought))
         .collect()
 }
 
@@ -213,6 +251,7 @@ impl Seen {
                 };
                 self.look_at_date(settings, &ran, number);
                 self.look_at_amount(settings, &memory, &ran, number);
+                self.look_at_index(settings, &memory, &ran);
                 if is_sound(settings, &memory) {
                     self.look_at_board(settings, &memory);
                     self.look_at_buffer(&memory, &reply, &ran);
@@ -276,6 +315,36 @@ impl Seen {
         }
     }
 
+    /// The index of a board that was handed in with all else sound: with the
+    /// true index in its place the board is. Of two files of one label no index
+    /// is true, and the later one gets another label.
+    fn look_at_index(&mut self, settings: Settings, memory: &[u8], ran: &Ran) {
+        let Some(files) = laid(memory, settings.files) else {
+            return;
+        };
+        let has_files = settings.files > 0;
+        let entries = settings.index.entries;
+        let kinds = match true_entries(&files) {
+            Some(right) if entries == right && ran.number == DONE => vec![Kind::True],
+            Some(right) if entries != right && is_sound_in(settings, memory) => {
+                kinds_of(&entries, &right, &files, memory.len())
+            }
+            None if is_sound_but_for_twins(settings, memory, &files) => twins(&files)
+                .map(|pair| kind_of_twins(&entries, pair))
+                .into_iter()
+                .collect(),
+            _ => Vec::new(),
+        };
+        for kind in kinds {
+            let expected = match kind {
+                Kind::True => DONE,
+                _ => NOT_SOUND,
+            };
+            assert_eq!(ran.number, expected, "{kind:?}");
+            self.add(Fact::BoardIndex { kind, has_files });
+        }
+    }
+
     /// A sound board, as it was handed in.
     fn look_at_board(&mut self, settings: Settings, memory: &[u8]) {
         let length = memory.len();
@@ -293,7 +362,11 @@ impl Seen {
     /// memory more or less, or with one file less.
     fn look_at_unsound(&mut self, settings: Settings, memory: &[u8], ran: &Ran) {
         assert_eq!(ran.number, NOT_SOUND);
-        if walked(memory, settings.files) != Some(settings.unused) {
+        let files = laid(memory, settings.files);
+        let entries = files.and_then(|files| true_entries(&files));
+        if walked(memory, settings.files) != Some(settings.unused)
+            || entries != Some(settings.index.entries)
+        {
             return;
         }
         let is_sound_with_more = is_sound_in(settings, &[memory, &[0]].concat());
@@ -349,6 +422,7 @@ impl Seen {
         for met in &blocks {
             self.look_at_set_date(met);
             self.look_at_list(met, memory.len());
+            self.look_at_lookup(met);
             self.look_at_reply(met);
             let is_crowded = settings.files.min(met.files) >= CROWDED;
             if is_crowded && met.outcome.is_ok() {
@@ -379,6 +453,24 @@ impl Seen {
         }
     }
 
+    /// A block that looked for a file: "The answer equals the full walk's".
+    fn look_at_lookup(&mut self, met: &Met<'_>) {
+        let Some(seen) = &met.seen else { return };
+        match (&seen.content, &met.outcome) {
+            (_, Err(WRONG_SUM | MALFORMED)) => return,
+            (None, outcome) => assert_eq!(outcome, &Err(NO_FILE)),
+            (Some(_), Err(MESSAGE_TOO_LONG)) => return,
+            (Some(content), Ok(Some(reply))) => {
+                assert_eq!(&reply[27..reply.len() - 6], content);
+            }
+            (Some(_), outcome) => assert_eq!(outcome, &Ok(None)),
+        }
+        for &sought in &seen.sought {
+            assert_eq!(sought.is_found(), met.outcome.is_ok());
+            self.add(Fact::Lookup(met.block.command, sought));
+        }
+    }
+
     /// The reply to F "$" on a full board.
     fn look_at_reply(&mut self, met: &Met<'_>) {
         let reads_list = (met.block.command, met.block.data) == (READ_SPECIAL, &[CONFIGURATION]);
@@ -406,11 +498,31 @@ impl Seen {
     }
 }
 
-/// A block, the number of files that it met on the board, and what came of it.
+/// A block, the number of files that it met on the board, what it saw there if
+/// it looked for a file, and what came of it.
 struct Met<'a> {
     block: &'a Block<'a>,
     files: u8,
+    seen: Option<InFiles>,
     outcome: Result<Option<Vec<u8>>, u8>,
+}
+
+/// What a full walk says to a block that looks for a file.
+struct InFiles {
+    sought: Vec<Sought>,
+    /// The content of the file, where there is one.
+    content: Option<Vec<u8>>,
+}
+
+/// What a full walk says to a block, on a board that began its frame with those
+/// files.
+fn in_files(board: &Board<'_>, block: &Block<'_>, before: &[Laid]) -> Option<InFiles> {
+    let meant = meant(block)?;
+    let now = laid(board.memory, board.settings.files).expect("a sound board");
+    Some(InFiles {
+        sought: sought(meant, &now, before),
+        content: walked_to(&now, meant).map(|file| content_at(board.memory, file)),
+    })
 }
 
 impl Met<'_> {
@@ -425,6 +537,7 @@ impl Met<'_> {
 
 /// Runs the blocks one by one.
 fn met<'a>(settings: Settings, memory: &[u8], blocks: &'a [Block<'a>]) -> Vec<Met<'a>> {
+    let before = laid(memory, settings.files).expect("a sound board");
     let mut memory = memory.to_vec();
     let mut board = Board {
         settings,
@@ -435,6 +548,7 @@ fn met<'a>(settings: Settings, memory: &[u8], blocks: &'a [Block<'a>]) -> Vec<Me
         .map(|block| Met {
             block,
             files: board.settings.files,
+            seen: in_files(&board, block, &before),
             outcome: run_block(&mut board, block),
         })
         .collect()
@@ -455,7 +569,7 @@ fn is_good_but_for_its_files(mut settings: Settings, memory: &[u8]) -> bool {
         return false;
     };
     let records: Vec<Record> = files.iter().map(|file| file.record).collect();
-    let last = files[MOST_FILES].content.start - RECORD_LENGTH;
+    let last = files[MOST_FILES].place;
     settings.files -= 1;
     labels_are_distinct(&records) && is_sound_in(settings, &memory[..last])
 }
@@ -465,11 +579,43 @@ fn with_amount(settings: Settings, unused: u16) -> Settings {
     Settings { unused, ..settings }
 }
 
-/// Whether the board would be sound in this memory, with the amount that is
-/// right there.
+/// The settings with these entries.
+fn with_entries(settings: Settings, entries: Entries) -> Settings {
+    let index = Index { entries };
+    Settings { index, ..settings }
+}
+
+/// Whether the board would be sound in this memory, with the amount and the
+/// index that are right there.
 fn is_sound_in(settings: Settings, memory: &[u8]) -> bool {
-    walked(memory, settings.files)
-        .is_some_and(|right| is_sound(with_amount(settings, right), memory))
+    let amount = walked(memory, settings.files);
+    let entries = laid(memory, settings.files).and_then(|files| true_entries(&files));
+    match (amount, entries) {
+        (Some(amount), Some(entries)) => {
+            is_sound(with_entries(with_amount(settings, amount), entries), memory)
+        }
+        _ => false,
+    }
+}
+
+/// Whether a board with two files of one label would be sound if the later of
+/// them had another label, and its index is right but for that label.
+fn is_sound_but_for_twins(settings: Settings, memory: &[u8], files: &[Laid]) -> bool {
+    let Some((one, two)) = twins(files) else {
+        return false;
+    };
+    let free = (0x21..=0x7E)
+        .find(|free| !b"0?".contains(free) && files.iter().all(|file| file.label != *free));
+    let mut memory = memory.to_vec();
+    memory[two.place] = free.expect("more labels than files");
+    let right = laid(&memory, settings.files).and_then(|files| true_entries(&files));
+    let is_right_elsewhere = right.is_some_and(|right| {
+        let entries = settings.index.entries;
+        (0x20..=0x7E)
+            .filter(|label| *label != one.label && Some(*label) != free)
+            .all(|label| entries[usize::from(label - 0x20)] == right[usize::from(label - 0x20)])
+    });
+    is_right_elsewhere && is_sound_in(settings, &memory)
 }
 
 /// Whether a frame of 65 blocks reads well when its last block or its first

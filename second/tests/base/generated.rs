@@ -1,19 +1,23 @@
 //! The random cases: every number that a call can answer occurs, most runs are
 //! on sound, addressed boards, both ends of every bound are reached, and so are
-//! the end of every month, every kind of wrong unused amount and every end of
-//! what request 6 reckons.
+//! the end of every month, every kind of wrong unused amount, every kind of wrong
+//! index, every sort of label that is looked for and every end of what request 6
+//! reckons.
 
 use std::collections::BTreeMap;
 use std::sync::OnceLock;
 
 use crate::common::assert_every_number;
-use crate::coverage::{wanted_board_amounts, Fact, Seen};
+use crate::coverage::{
+    wanted_board_amounts, wanted_board_indices, wanted_file_lookups, Fact, Seen,
+};
 use crate::reckoned::{wanted as wanted_of_reckoning, Shown};
 use second::cases::amounts;
 use second::cases::any_case;
-use second::cases::boards::{small, small_or_empty, sound};
+use second::cases::boards::{small, small_crowd, small_or_empty, sound};
 use second::cases::dates::wrong;
 use second::cases::dice::Dice;
+use second::cases::indices;
 use second::cases::write_cases;
 use second::soundness::{is_sound, LEAST_MEMORY, MOST_MEMORY};
 use second::stream::{
@@ -37,8 +41,8 @@ const GATE_LEAST: [(u8, usize); 5] = [
     (b'F', 835),
     (b'J', 819),
 ];
-/// How often at least these cases show what is looked for in unused amounts and
-/// in the calls that reckon with dates.
+/// How often at least these cases show what is looked for in unused amounts, in
+/// indices, in lookups and in the calls that reckon with dates.
 const GATE_SEVERAL: usize = 3;
 /// The same for their numbers, for going back over a year's beginning, for every
 /// weekday and for days of either sign.
@@ -81,7 +85,8 @@ fn every_number_occurs() {
 }
 
 /// Boards that are meant to be sound are, and are not with a date that is
-/// meant not to exist or with an unused amount that is meant to be wrong.
+/// meant not to exist, with an unused amount or with an index that is meant to be
+/// wrong.
 #[test]
 fn boards_are_as_meant() {
     let mut dice = Dice::new(4);
@@ -90,12 +95,16 @@ fn boards_are_as_meant() {
             sound(&mut dice),
             small(&mut dice),
             small_or_empty(&mut dice),
+            small_crowd(&mut dice),
         ] {
             assert!(is_sound(board.settings, &board.memory));
             let settings = wrong(&mut dice).on(board.settings);
             assert!(!is_sound(settings, &board.memory), "{settings:?}");
             let settings = amounts::wrong(&mut dice, board.settings, board.memory.len());
             assert!(!is_sound(settings, &board.memory), "{settings:?}");
+            let mut wrong = board.clone();
+            indices::make_wrong(&mut dice, &mut wrong);
+            assert!(!is_sound(wrong.settings, &wrong.memory), "{wrong:?}");
         }
     }
 }
@@ -122,7 +131,7 @@ fn the_stream_is_the_cases() {
     for _ in 0..300 {
         let case: Case = any_case(&mut dice, &CALLS).expect("a call to choose");
         let next = next_case(&mut input).expect("memory gives it");
-        assert_eq!(next, Next::Case(case));
+        assert_eq!(next, Next::Case(Box::new(case)));
     }
     assert_eq!(next_case(&mut input).expect("memory gives it"), Next::End);
 }
@@ -136,7 +145,7 @@ fn gate_cases() -> Vec<Case> {
     let mut input = stream.as_slice();
     let mut cases = Vec::new();
     while let Next::Case(case) = next_case(&mut input).expect("memory gives it") {
-        cases.push(case);
+        cases.push(*case);
     }
     cases
 }
@@ -194,12 +203,29 @@ fn the_gate_reckons_at_every_end() {
 /// and right ones, answered by 0, without files and with them.
 #[test]
 fn the_gate_holds_wrong_amounts() {
+    assert_several(&wanted_board_amounts());
+}
+
+/// The same of the index.
+#[test]
+fn the_gate_holds_wrong_indices() {
+    assert_several(&wanted_board_indices());
+}
+
+/// The cases of the gate look for files of every sort by each command.
+#[test]
+fn the_gate_looks_for_files() {
+    assert_several(&wanted_file_lookups());
+}
+
+/// Checks that the gate's cases show each of these several times.
+fn assert_several(facts: &[Fact]) {
     let seen = gate_seen();
-    for fact in wanted_board_amounts() {
-        println!("{} {fact:?}", seen.count(fact));
+    for fact in facts {
+        println!("{} {fact:?}", seen.count(*fact));
     }
-    for fact in wanted_board_amounts() {
-        assert!(seen.count(fact) >= GATE_SEVERAL, "{fact:?}");
+    for fact in facts {
+        assert!(seen.count(*fact) >= GATE_SEVERAL, "{fact:?}");
     }
 }
 

@@ -1,5 +1,5 @@
-//! The tests of the base of document 01 and of requests 1, 3 and 6 of document
-//! 02, one idea to a file.
+//! The tests of the base of document 01 and of requests 1, 3, 6 and 7 of
+//! document 02, one idea to a file.
 #![forbid(unsafe_code)]
 
 mod amounts;
@@ -13,6 +13,9 @@ mod edges_of_frames;
 mod edges_of_outputs;
 mod generated;
 mod headers;
+mod index;
+mod indices;
+mod lookups;
 mod orders;
 mod reckoned;
 mod renewal;

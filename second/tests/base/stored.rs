@@ -42,8 +42,8 @@ fn every_refusal_is_there() {
 }
 
 /// The fixed cases reach both ends of what document 01 allows, every command
-/// on a full board, the end of every month and every end of what request 6
-/// reckons.
+/// on a full board, the end of every month, every kind of wrong index, every sort
+/// of label that is looked for and every end of what request 6 reckons.
 #[test]
 fn every_end_is_there() {
     let cases = all().into_iter().map(|stored| stored.case);
@@ -63,7 +63,7 @@ fn writing_comes_first_and_the_whole_is_small() {
     let mut stream = Vec::new();
     write_stored(&mut stream, &CALLS).expect("memory takes it");
     println!("{} bytes", stream.len());
-    assert!(stream.len() < 2_000_000, "{}", stream.len());
+    assert!(stream.len() < 3_000_000, "{}", stream.len());
     let mut outputs = Vec::new();
     write_stored(&mut outputs, b"WFJ").expect("memory takes it");
     assert!(stream.starts_with(&outputs));

@@ -4,6 +4,7 @@ use std::io::Write;
 use std::process::{Command, Output, Stdio};
 
 use crate::calendar::{date, FIRST_DAY, LAST_DAY};
+use second::index::Index;
 use second::settings::Settings;
 use second::stream::{line, next_case, replay, Case, Ended, Next};
 
@@ -29,23 +30,34 @@ fn string(bytes: &[u8]) -> Vec<u8> {
     [&length.to_be_bytes(), bytes].concat()
 }
 
-/// The settings of a fresh board of 64 bytes.
+/// The settings of a fresh board of 64 bytes but for its index.
 const SETTINGS: [u8; 12] = [0, 0, 1, 1, 0, b'S', 0, 0, b'C', 0, 0, 64];
+/// An index in which all entries are these two bytes.
+fn index(entry: [u8; 2]) -> Vec<u8> {
+    entry.repeat(95)
+}
+
+/// Settings of these twelve bytes with the index of a board without files.
+fn settings(first: &[u8]) -> Vec<u8> {
+    [first, &index([0xFF, 0xFF])].concat()
+}
 
 #[test]
 fn a_fresh_board() {
     let case = [b"NC".to_vec(), string(&[0xFF; 64])].concat();
     let zeros = "00".repeat(64);
-    let line = format!("0 0 0 1 1 0 83 0 0 67 0 64 {zeros}\n");
+    let none = "FFFF".repeat(95);
+    let line = format!("0 0 0 1 1 0 83 0 0 67 0 64 {none} {zeros}\n");
     assert_eq!(lines(&case), line);
     let case = [b"NC".to_vec(), string(&[0xFF; 300])].concat();
     let zeros = "00".repeat(300);
-    let line = format!("0 0 0 1 1 0 83 0 0 67 0 300 {zeros}\n");
+    let line = format!("0 0 0 1 1 0 83 0 0 67 0 300 {none} {zeros}\n");
     assert_eq!(lines(&case), line);
     let case = [b"NZ".to_vec(), string(b"\xAB")].concat();
-    assert_eq!(lines(&case), "10 0 0 0 0 0 0 0 0 0 0 0 AB\n");
+    let zeros = format!("0 0 0 0 0 0 0 0 0 0 0 {}", "0000".repeat(95));
+    assert_eq!(lines(&case), format!("10 {zeros} AB\n"));
     let case = [b"NC".to_vec(), string(b"")].concat();
-    assert_eq!(lines(&case), "11 0 0 0 0 0 0 0 0 0 0 0 -\n");
+    assert_eq!(lines(&case), format!("11 {zeros} -\n"));
 }
 
 #[test]
@@ -53,7 +65,7 @@ fn a_run() {
     let frame = b"\0\0\0\0\0\x01Z00\x02X\x03\x02F \x04";
     let case = [
         b"R".to_vec(),
-        string(&SETTINGS),
+        string(&settings(&SETTINGS)),
         string(&[0; 64]),
         string(&[0xEE; 129]),
         string(frame),
@@ -63,19 +75,70 @@ fn a_run() {
     let nuls = "00".repeat(20);
     let reply = "01303030024520303030300330313241";
     let rest = "EE".repeat(129 - 37);
+    let none = "FFFF".repeat(95);
     assert_eq!(
         lines(&case),
-        format!("0 1 1 1 21 37 0 0 1 1 0 83 0 0 67 0 64 {memory} {nuls}{reply}04{rest}\n")
+        format!("0 1 1 1 21 37 0 0 1 1 0 83 0 0 67 0 64 {none} {memory} {nuls}{reply}04{rest}\n")
     );
     let case = [
         b"R".to_vec(),
-        string(&[24, 1, 2, 3, 4, 5, 6, 7, 8, 9, 0x12, 0x34]),
+        string(&settings(&[24, 1, 2, 3, 4, 5, 6, 7, 8, 9, 0x12, 0x34])),
         string(b""),
         string(b"\x01"),
         string(frame),
     ]
     .concat();
-    assert_eq!(lines(&case), "1 0 0 0 0 0 24 1 2 3 4 5 6 7 8 9 4660 - 01\n");
+    assert_eq!(
+        lines(&case),
+        format!("1 0 0 0 0 0 24 1 2 3 4 5 6 7 8 9 4660 {none} - 01\n")
+    );
+}
+
+/// The index stands behind the unused amount, from label 20H to label 7EH, the
+/// most significant byte of each entry first, and is printed as one string.
+#[test]
+fn indices() {
+    let mut memory = b"~AU00F5FF00".to_vec();
+    memory.resize(256, 0);
+    memory.extend(b" BL00010000");
+    memory.resize(268, 0);
+    let mut first = SETTINGS;
+    first[9..].copy_from_slice(&[2, 0, 0]);
+    let mut right = index([0xFF, 0xFF]);
+    right[..2].copy_from_slice(&[0x01, 0x00]);
+    right[188..].copy_from_slice(&[0x00, 0x00]);
+    let mut turned = right.clone();
+    turned[..2].copy_from_slice(&[0x00, 0x01]);
+    let mut of_ab = index([0xFF, 0xFF]);
+    of_ab[66..70].copy_from_slice(&[0xAB, 0xCD, 0x00, 0x1F]);
+    let counted: Vec<u8> = (0..190).collect();
+    for (index, number) in [
+        (right, 0),
+        (turned, 1),
+        (of_ab, 1),
+        (counted, 1),
+        (index([0, 0]), 1),
+    ] {
+        let case = [
+            b"R".to_vec(),
+            string(&[first.as_slice(), &index].concat()),
+            string(&memory),
+            string(&[0xEE; 332]),
+            string(b"\0\0\0\0\0\x01Z00\x02X\x04"),
+        ]
+        .concat();
+        let blocks = if number == 0 { "0 1 1 21" } else { "0 0 0 0" };
+        let hex = |bytes: &[u8]| -> String {
+            let digits = bytes.iter().map(|byte| format!("{byte:02X}"));
+            digits.collect()
+        };
+        let settings = format!("0 0 1 1 0 83 0 0 67 2 0 {}", hex(&index));
+        let (memory, reply) = (hex(&memory), "EE".repeat(332));
+        assert_eq!(
+            lines(&case),
+            format!("{number} {blocks} 0 {settings} {memory} {reply}\n")
+        );
+    }
 }
 
 /// The unused amount stands behind the ten, its most significant byte first, and
@@ -92,7 +155,7 @@ fn unused_amounts() {
     ] {
         let case = [
             b"R".to_vec(),
-            string(&[&SETTINGS[..10], &bytes].concat()),
+            string(&settings(&[&SETTINGS[..10], &bytes].concat())),
             string(&[0; 300]),
             string(&[0xEE; 364]),
             string(b"\0\0\0\0\0\x01Z00\x02X\x04"),
@@ -100,7 +163,8 @@ fn unused_amounts() {
         .concat();
         let blocks = if number == 0 { "0 1 1 21" } else { "0 0 0 0" };
         let (memory, reply) = ("00".repeat(300), "EE".repeat(364));
-        let settings = format!("0 0 1 1 0 83 0 0 67 0 {amount}");
+        let none = "FFFF".repeat(95);
+        let settings = format!("0 0 1 1 0 83 0 0 67 0 {amount} {none}");
         assert_eq!(
             lines(&case),
             format!("{number} {blocks} 0 {settings} {memory} {reply}\n")
@@ -108,12 +172,12 @@ fn unused_amounts() {
     }
 }
 
-/// "settings of another length": the ten alone too.
+/// "settings of another length": the ten alone too, and those without an index.
 #[test]
 fn settings_of_another_length() {
-    for length in (0..=200).filter(|&length| length != 12) {
-        let mut settings = SETTINGS.to_vec();
-        settings.resize(length, 0);
+    for length in (0..=400).filter(|&length| length != 202) {
+        let mut settings = settings(&SETTINGS);
+        settings.resize(length, 0xFF);
         let case = [
             b"R".to_vec(),
             string(&settings),
@@ -225,9 +289,9 @@ fn bad_cases_end_the_stream() {
     let good_line = "15 0 -\n";
     assert_eq!(lines(b""), "");
     assert_eq!(lines(&good), good_line);
-    let eleven = [
+    let without_index = [
         b"R".to_vec(),
-        string(&SETTINGS[..11]),
+        string(&SETTINGS),
         string(b""),
         string(b""),
         string(b""),
@@ -245,7 +309,7 @@ fn bad_cases_end_the_stream() {
         b"F\x01\0\0\0",
         b"W\x01\0\0A\0\0",
         b"J\x01\0\0\0\0",
-        &eleven,
+        &without_index,
     ] {
         let stream = [&good, bad].concat();
         let expected = (format!("{good_line}bad case\n"), Ended::BadCase);
@@ -298,6 +362,7 @@ fn what_is_encoded_is_read_again() {
         Case::Run {
             settings: Settings {
                 unused: 0x0B0C,
+                index: Index::empty().with(b' ', 0x0D0E).with(b'~', 0x0F10),
                 ..Settings::default().with_fields([1, 2, 3, 4, 5, 6, 7, 8, 9, 10])
             },
             memory: text(256),
@@ -335,7 +400,7 @@ fn what_is_encoded_is_read_again() {
         let bytes = case.encode();
         let mut input = bytes.as_slice();
         let next = next_case(&mut input).expect("memory gives it");
-        assert_eq!(next, Next::Case(case.clone()));
+        assert_eq!(next, Next::Case(Box::new(case.clone())));
         assert!(input.is_empty());
         let expected = line(&case.answer());
         assert_eq!(lines(&bytes).as_bytes(), expected);

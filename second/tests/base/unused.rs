@@ -14,6 +14,7 @@ use second::right_amount::right_amount;
 use second::settings::Settings;
 use second::soundness::is_sound;
 use second::special::get;
+use second::stored::index::all as stored_indices;
 use second::stored::unused::all as stored_amounts;
 use second::stored::{all, Stored};
 use second::stream::{Answer, Case};
@@ -406,11 +407,16 @@ fn right_amounts() {
 }
 
 /// Every fixed run hands in an amount that is right, where one is, but for those
-/// of request 3 that are meant to be wrong; and every amount that comes back from
-/// a run that was done is right, in the settings and in the reply.
+/// of request 3 that are meant to be wrong and for two of request 7 beside them;
+/// and every amount that comes back from a run that was done is right, in the
+/// settings and in the reply.
 #[test]
 fn fixed_cases() {
-    let own: Vec<Case> = stored_amounts().into_iter().map(|own| own.case).collect();
+    let own: Vec<Case> = stored_amounts()
+        .into_iter()
+        .chain(stored_indices())
+        .map(|own| own.case)
+        .collect();
     let (mut right, mut wrong, mut none, mut told) = (0, 0, 0, 0);
     for Stored { case, number, .. } in all() {
         let Case::Run {

@@ -2,11 +2,8 @@ use Rattle.commands.proofs.Gets.{gets}
 use Rattle.commands.proofs.commands.get_content.Statement.{statement}
 use Rattle.commands.proofs.commands.get_content.Tie as tie
 
-cast-find : tie.Need-cast-find
-cast-find c = search gets
-
-find-requires : tie.Need-find-requires
-find-requires c κs = search gets
+look-up-requires : tie.Need-look-up-requires
+look-up-requires c κs = search gets
 
 enum-told : tie.Need-enum-told
 enum-told c = search gets
@@ -48,8 +45,7 @@ pub get-content-spec : {M : Type 1} → statement M
 get-content-spec =
     tie.close
     (tie.spec
-    cast-find
-    find-requires
+    look-up-requires
     enum-told
     quiet-requires
     enum-known-start

@@ -2,11 +2,8 @@ use Rattle.commands.proofs.Puts.{puts}
 use Rattle.commands.proofs.commands.put_message.Statement.{statement}
 use Rattle.commands.proofs.commands.put_message.Tie as tie
 
-cast-find : tie.Need-cast-find
-cast-find c = search puts
-
-find-requires : tie.Need-find-requires
-find-requires c κs = search puts
+look-up-requires : tie.Need-look-up-requires
+look-up-requires c κs = search puts
 
 enum-told : tie.Need-enum-told
 enum-told c = search puts
@@ -48,8 +45,7 @@ pub put-message-spec : {M : Type 1} → statement M
 put-message-spec =
     tie.close
     (tie.spec
-    cast-find
-    find-requires
+    look-up-requires
     enum-told
     quiet-requires
     enum-known-start

@@ -35,11 +35,26 @@ enum-known-number c = search answering
 untouched-requires-3 : tie.Need-untouched-requires-3
 untouched-requires-3 c κs = search answering
 
+same-length-3 : tie.Need-same-length-3
+same-length-3 c = search answering
+
+returns-3 : tie.Need-returns-3
+returns-3 c = search answering
+
 enum-known-header : tie.Need-enum-known-header
 enum-known-header c = search answering
 
 run-frame-requires : tie.Need-run-frame-requires
 run-frame-requires c κs = search answering
+
+same-length-4 : tie.Need-same-length-4
+same-length-4 c = search answering
+
+same-length-5 : tie.Need-same-length-5
+same-length-5 c = search answering
+
+returns-4 : tie.Need-returns-4
+returns-4 c = search answering
 
 enum-known-length : tie.Need-enum-known-length
 enum-known-length c = search answering
@@ -52,21 +67,6 @@ slice-aggregate-run-frame c = search answering
 
 run-frame-requires-2 : tie.Need-run-frame-requires-2
 run-frame-requires-2 c κs = search answering
-
-same-length-3 : tie.Need-same-length-3
-same-length-3 c = search answering
-
-returns-3 : tie.Need-returns-3
-returns-3 c = search answering
-
-same-length-4 : tie.Need-same-length-4
-same-length-4 c = search answering
-
-same-length-5 : tie.Need-same-length-5
-same-length-5 c = search answering
-
-returns-4 : tie.Need-returns-4
-returns-4 c = search answering
 
 same-length-6 : tie.Need-same-length-6
 same-length-6 c = search answering
@@ -92,17 +92,17 @@ run-spec =
     read-requires
     enum-known-number
     untouched-requires-3
+    same-length-3
+    returns-3
     enum-known-header
     run-frame-requires
+    same-length-4
+    same-length-5
+    returns-4
     enum-known-length
     array-share-prefix-room
     slice-aggregate-run-frame
     run-frame-requires-2
-    same-length-3
-    returns-3
-    same-length-4
-    same-length-5
-    returns-4
     same-length-6
     same-length-7
     returns-5)

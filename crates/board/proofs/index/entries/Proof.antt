@@ -1,0 +1,46 @@
+use Prim.Native.Nat.{_-_}
+use lib.ListN.{length}
+use Rattle.board.proofs.Entries.{Counted, counting}
+use Rattle.board.proofs.index.entries.Statement.{statement}
+use Rattle.board.proofs.index.entries.Tie as tie
+
+abbrev Inv-loop : tie.InvT-loop
+Inv-loop places sum₀ i₀ sum i = Counted places sum i
+
+abbrev μ-loop : tie.MeasureT-loop
+μ-loop places sum₀ i₀ sum i = length places - i
+
+loop-holds : tie.Need-loop-holds Inv-loop μ-loop
+loop-holds c = search counting
+
+count-at-requires : tie.Need-count-at-requires Inv-loop μ-loop
+count-at-requires c κs = search counting
+
+add-sum : tie.Need-add-sum Inv-loop μ-loop
+add-sum c = search counting
+
+add-i : tie.Need-add-i Inv-loop μ-loop
+add-i c = search counting
+
+loop-less : tie.Need-loop-less Inv-loop μ-loop
+loop-less c = search counting
+
+loop-again : tie.Need-loop-again Inv-loop μ-loop
+loop-again c = search counting
+
+returns : tie.Need-returns Inv-loop μ-loop
+returns c = search counting
+
+pub entries-spec : {M : Type 1} → statement M
+entries-spec =
+    tie.close
+    (tie.spec
+    Inv-loop
+    μ-loop
+    loop-holds
+    count-at-requires
+    add-sum
+    add-i
+    loop-less
+    loop-again
+    returns)

@@ -1,0 +1,46 @@
+-- Request 7, "Sixty files and a slow lookup.": boards with a wrong index, each beside the one with the right index.
+use Prim.Native.Nat.{ℕ, _+_, _-_}
+use Prim.Native.String.{String}
+use mathlib.Core.List.{List, [], _∷_, _++_}
+use lib.ListN.{length, set}
+use Rattle.board.specs.Settings.{withFiles}
+use Rattle.board.specs.Index.{FIRST-LABEL, NOWHERE}
+use Rattle.board.specs.declared.Settings.{Settings}
+use Rattle.sign.specs.Run.{Outcome}
+use Rattle.sheet.specs.Sheet.{onFresh}
+use Rattle.cases.specs.Numbers.{Call, running, Row, row, E'S}
+
+-- settings with another place for a label
+abbrev pub placing : Settings → ℕ → ℕ → Settings
+placing s label place = withFiles s (s .files) (s .unused) (set (s .places) (label - FIRST-LABEL) place)
+
+-- a frame on the board that a run left, but with this place for a label, and with this byte at a place of memory
+abbrev pub indexing : Outcome → ℕ → ℕ → ℕ → ℕ → Call
+indexing x label place at byte = running (placing (x .answer .settings) label place) (set (x .memory) at byte) (length (x .memory) + 64) E'S
+
+-- a fresh board of 512 bytes after frames, which starts with "A": places of a label that are wrong on it, and the one that is right
+unfoldable pub misplaced : List String → ℕ → List ℕ → ℕ → List Row
+misplaced fs label [] right = []
+misplaced fs label (p ∷ ps) right =
+    row 1 (indexing (onFresh 512 fs) label p 0 0x41) (indexing (onFresh 512 fs) label right 0 0x41) ∷ misplaced fs label ps right
+
+-- the files "A" at place 0 and "S" at place 27, with 16 and 8 bytes of content; what is behind them starts at place 46
+abbrev pub two : List String
+two = "_01Z00_02E$AAU0010FF00SBL00080000_04" ∷ []
+
+-- "1 when it is wrong"
+unfoldable pub indexTable : List Row
+indexTable =
+    -- a place off by one, another file's, the start of its content, that of no file, memory's end and beyond, none
+    misplaced two 0x41 (1 ∷ 11 ∷ 27 ∷ 46 ∷ 511 ∷ 512 ∷ 513 ∷ 65534 ∷ NOWHERE ∷ []) 0
+    ++ misplaced two 0x53 (26 ∷ 28 ∷ 0 ∷ 38 ∷ 46 ∷ 512 ∷ NOWHERE ∷ []) 27
+    -- a place for a label that no file has: the first and the last label, "0", "?" and "B"
+    ++ misplaced two 0x20 (0 ∷ 27 ∷ []) NOWHERE
+    ++ misplaced two 0x7E (0 ∷ 46 ∷ []) NOWHERE
+    ++ misplaced two 0x30 (0 ∷ []) NOWHERE
+    ++ misplaced two 0x3F (27 ∷ []) NOWHERE
+    ++ misplaced two 0x42 (0 ∷ 27 ∷ 46 ∷ 512 ∷ []) NOWHERE
+    -- two files of the label "A", of two types, whichever of them the entry names; beside them the second file is "S"
+    ++ row 1 (indexing (onFresh 512 two) 0x41 0 27 0x41) (indexing (onFresh 512 two) 0x41 0 27 0x53)
+    ∷ row 1 (indexing (onFresh 512 two) 0x41 27 27 0x41) (indexing (onFresh 512 two) 0x53 27 27 0x53)
+    ∷ []
