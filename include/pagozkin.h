@@ -20,7 +20,7 @@ extern "C" {
 
 /* The version of header and library: a changed struct, number or call changes the first part, an added one the second part;
  * where only what a call answers has changed, the third. */
-#define PAGOZKIN_VERSION_MAJOR 3
+#define PAGOZKIN_VERSION_MAJOR 4
 #define PAGOZKIN_VERSION_MINOR 0
 #define PAGOZKIN_VERSION_PATCH 0
 
@@ -50,6 +50,10 @@ extern "C" {
 #define PAGOZKIN_FIRST_YEAR 2000      /* years of dates: "2000 to 2099" */
 #define PAGOZKIN_LAST_YEAR 2099       /* the same */
 #define PAGOZKIN_MOST_MONTHS 1199     /* months that a renewal counts, forward or back: "Counts run from -1,199 to 1,199." */
+
+#define PAGOZKIN_MOST_OFFSET 9        /* degrees of a temperature offset, warmer or colder: "-9 to 9" */
+#define PAGOZKIN_LEAST_READING (-128) /* degrees that are read: "a reading from -128 to 127" */
+#define PAGOZKIN_MOST_READING 127     /* the same */
 
 /* The room that a read is lent: bytes that a printable frame stands for, at most. */
 #define PAGOZKIN_ROOM PAGOZKIN_MOST_TRANSLATED
@@ -104,6 +108,12 @@ enum {
     PAGOZKIN_RESULT_OUTSIDE = 32 /* "a result outside 2000 to 2099" */
 };
 
+/* A reading and the temperature offset: "in both the call answers 0". */
+enum {
+    PAGOZKIN_OFFSET_OUTSIDE = 1,  /* "an offset outside -9 to 9, from the call too": the number that a board with such an offset has */
+    PAGOZKIN_READING_OUTSIDE = 33 /* "then 33 for a reading outside its range" */
+};
+
 /* The three forms of a frame. */
 enum {
     PAGOZKIN_PLAIN_FORM = 1,    /* "blocks parted by ETX, EOT straight after the last data" */
@@ -117,7 +127,8 @@ enum {
  * too: ask pagozkin_is_sound at the start, and write a date that exists here. Settings of any version 1 have no unused amount: write
  * memory's length less, for each file, PAGOZKIN_RECORD and its SIZE. Settings of versions 1 and 2 have no places: write
  * PAGOZKIN_NOWHERE to all of them, and then for each file, at its label less PAGOZKIN_FIRST_LABEL, where its record begins in memory.
- * From then on the library keeps amount and places true: leave them alone. */
+ * Settings of versions 1 to 3 have no temperature offset: write 0, or an offset from -9 to 9.
+ * From then on the library keeps amount and places true: leave them alone. A byte of no meaning stands behind the last field. */
 typedef struct pagozkin_settings {
     uint8_t hour;    /* 0 to 23 */
     uint8_t minute;  /* 0 to 59 */
@@ -132,6 +143,7 @@ typedef struct pagozkin_settings {
     uint16_t unused; /* "the memory length less, for each file, its record and its counted size": 0 to 32,768; else 1 */
     /* "for each label 20H to 7EH, where its record begins", or PAGOZKIN_NOWHERE; else 1 */
     uint16_t places[PAGOZKIN_PLACES];
+    int8_t offset; /* temperature offset, set by E "T": "-9 to 9"; else 1 */
 } pagozkin_settings;
 
 /* "A run returns a number, blocks done, blocks refused, .." */
@@ -213,6 +225,12 @@ typedef struct pagozkin_days_apart {
     int32_t days;   /* "negative when the second is earlier": -36,524 to 36,524 */
 } pagozkin_days_apart;
 
+/* A reading with the temperature offset added. */
+typedef struct pagozkin_corrected {
+    uint8_t number; /* 0, or 1 or 33 with 0 */
+    int16_t sum;    /* "the exact sum": -137 to 136 */
+} pagozkin_corrected;
+
 /* Stack in bytes that a call needs, the settings that are handed over by value and the C library's memcpy and memset included, as
  * libport.a stands (x86-64). */
 #define PAGOZKIN_STACK_FRESH 768
@@ -226,6 +244,7 @@ typedef struct pagozkin_days_apart {
 #define PAGOZKIN_STACK_RENEWAL_DATE 512
 #define PAGOZKIN_STACK_WEEKDAY 3072
 #define PAGOZKIN_STACK_DAYS_BETWEEN 3072
+#define PAGOZKIN_STACK_ADD_OFFSET 512
 
 /* "A fresh board has 00:00, 01 01 00, format S, speaker off, address 00, no files, memory all zero." 0, 10 or 11.
  * C must see to: memory valid for memory_len bytes. */
@@ -276,6 +295,11 @@ pagozkin_day_of_week pagozkin_weekday(pagozkin_date date) PAGOZKIN_MUST_USE;
 
 /* "the days between two dates, negative when the second is earlier": 0, or 30 where either date does not exist. */
 pagozkin_days_apart pagozkin_days_between(pagozkin_date first, pagozkin_date second) PAGOZKIN_MUST_USE;
+
+/* "adds the offset to a reading from -128 to 127 and returns the exact sum": 0, or 1 and then 33. offset is the settings' own, which
+ * after a run that was not answered with 1 is -9 to 9; reading is what the sensor says. The sum of a good pair is always answered,
+ * also where a byte would not hold it: show sum, and not a part of it. */
+pagozkin_corrected pagozkin_add_offset(int8_t offset, int16_t reading) PAGOZKIN_MUST_USE;
 
 #ifdef __cplusplus
 }

@@ -1,5 +1,5 @@
-/* Two files are configured on a fresh board, two notices joined into one transmission and run, one is read back, and the unused memory
- * is told.
+/* Two files are configured on a fresh board, two notices joined into one transmission and run, one is read back, the unused memory
+ * is told, and the sign's thermometer is set right.
  * README.md says how it is built and run; notices.stdout is what it prints. */
 #include <pagozkin.h>
 #include <stdio.h>
@@ -78,5 +78,10 @@ int main(void)
 
     /* For a status page: the settings keep it, so no frame has to ask for it. */
     printf("unused: %u of %u bytes\n", settings.unused, MEMORY);
+
+    /* A sign that reads two degrees warm: the offset is set once, and each reading is corrected by it. */
+    run(first, write_frame('E', "T-2", first));
+    pagozkin_corrected c = pagozkin_add_offset(settings.offset, 21);
+    printf("temperature: %u, reads 21, shows %d\n", c.number, c.sum);
     return 0;
 }

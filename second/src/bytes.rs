@@ -38,3 +38,8 @@ pub const CONFIGURATION: u8 = b'$';
 pub const TIME_FORMAT: u8 = b'\'';
 pub const SERIAL_ADDRESS: u8 = b'7';
 pub const DATE: u8 = b';';
+pub const TEMPERATURE_OFFSET: u8 = b'T';
+
+/// The two signs of a temperature offset.
+pub const PLUS: u8 = b'+';
+pub const MINUS: u8 = b'-';

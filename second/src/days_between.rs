@@ -3,7 +3,7 @@
 //! the difference of the two.
 
 use crate::dates::Date;
-use crate::numbers::{Number, DONE, NO_SUCH_DATE};
+use crate::numbers::{answered, Number, NO_SUCH_DATE};
 
 const DAYS_OF_YEAR: i32 = 365;
 /// Request 1: "29 February in each year divisible by four".
@@ -24,17 +24,10 @@ pub struct Between {
 
 /// The days from the first date to the second; 0 where either does not exist.
 pub fn days_between(first: Date, second: Date) -> Between {
-    if first.exists() && second.exists() {
-        Between {
-            number: DONE,
-            days: day_number(second) - day_number(first),
-        }
-    } else {
-        Between {
-            number: NO_SUCH_DATE,
-            days: 0,
-        }
-    }
+    let both_exist = first.exists() && second.exists();
+    let days = both_exist.then(|| day_number(second) - day_number(first));
+    let (number, days) = answered(days.ok_or(NO_SUCH_DATE));
+    Between { number, days }
 }
 
 /// The number of a date that exists: each day's is one more than that of the

@@ -1,9 +1,9 @@
 //! A second implementation of the sign board of document 01 and of requests 1,
-//! 3, 6 and 7 of document 02, written from these documents alone, to be compared
-//! case by case with another one.
+//! 3, 6, 7 and 9 of document 02, written from these documents alone, to be
+//! compared case by case with another one.
 //!
 //! Days and months, by themselves: [`dates`], [`renewal`], [`weekday`],
-//! [`days_between`].
+//! [`days_between`]. Degrees, by themselves: [`temperature`].
 //! The frame layer: [`translation`], [`lead`], [`header`], [`body`], [`sum`],
 //! [`frame`], [`forms`], [`writing`], [`reforming`], [`joining`].
 //! The sign layer: [`settings`], [`record`], [`files`], [`unused`], [`index`],
@@ -44,6 +44,7 @@ pub mod special;
 pub mod stored;
 pub mod stream;
 pub mod sum;
+pub mod temperature;
 pub mod translation;
 pub mod twelve;
 pub mod unused;

@@ -4,7 +4,8 @@ pub type Number = u8;
 
 /// "frame run, written, re-formed or joined; fresh board made"
 pub const DONE: Number = 0;
-/// "board not sound"
+/// "board not sound"; request 9: "1 for an offset outside -9 to 9, from the call
+/// too"
 pub const NOT_SOUND: Number = 1;
 /// "reply buffer shorter than memory plus 64"
 pub const SHORT_REPLY_BUFFER: Number = 2;
@@ -62,3 +63,14 @@ pub const NO_SUCH_DATE: Number = 30;
 pub const WRONG_COUNT: Number = 31;
 /// Request 6: "32 for a result outside 2000 to 2099"
 pub const RESULT_OUTSIDE: Number = 32;
+/// Request 9: "33 for a reading outside its range"
+pub const WRONG_READING: Number = 33;
+
+/// The number and the value of a call that answers a refusal with zeros: request
+/// 6, "all answer with zeros"; request 9, "in both the call answers 0".
+pub fn answered<T: Default>(result: Result<T, Number>) -> (Number, T) {
+    match result {
+        Ok(value) => (DONE, value),
+        Err(number) => (number, T::default()),
+    }
+}

@@ -4,7 +4,7 @@
 //! over a year's beginning needs no division.
 
 use crate::dates::{month_length, Date};
-use crate::numbers::{Number, DONE, NO_SUCH_DATE, RESULT_OUTSIDE, WRONG_COUNT};
+use crate::numbers::{answered, Number, NO_SUCH_DATE, RESULT_OUTSIDE, WRONG_COUNT};
 
 /// Request 6: "Counts run from -1,199 to 1,199."
 pub const LEAST_COUNT: i16 = -1_199;
@@ -21,15 +21,10 @@ pub struct Renewed {
 }
 
 /// The renewal date so many months after the first date, or before it where the
-/// count is below 0. Of refusals request 6 says: "all answer with zeros".
+/// count is below 0.
 pub fn renewal(first: Date, count: i16) -> Renewed {
-    match renewed(first, count) {
-        Ok(date) => Renewed { number: DONE, date },
-        Err(number) => Renewed {
-            number,
-            date: Date::default(),
-        },
-    }
+    let (number, date) = answered(renewed(first, count));
+    Renewed { number, date }
 }
 
 /// The date or the refusal's number, by request 6: "30 for a date that does not

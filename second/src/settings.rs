@@ -1,7 +1,9 @@
 //! "Settings travel as one record, handed in and handed back: time, date, time
 //! format, speaker, serial address, own type, number of files." Request 3: "Keep
-//! the unused amount in the settings record". Request 7 adds the index.
+//! the unused amount in the settings record". Request 7 adds the index and request
+//! 9 the temperature offset.
 
+use crate::bytes::{MINUS, PLUS};
 use crate::dates::{exists, FIRST_YEAR};
 use crate::hex::{byte_value, frame_digit};
 use crate::index::Index;
@@ -15,8 +17,8 @@ pub const SPEAKER_ON: u8 = 1;
 const ON_TEXT: [u8; 2] = *b"00";
 const OFF_TEXT: [u8; 2] = *b"FF";
 
-/// How many fields of one byte the record has: all but the unused amount
-/// and the index.
+/// How many fields of one byte without a sign the record has: all but the unused
+/// amount, the index and the temperature offset.
 pub const FIELDS: usize = 10;
 
 /// The record, a number to a field, so that a field can be out of range.
@@ -34,11 +36,13 @@ pub struct Settings {
     pub files: u8,
     pub unused: u16,
     pub index: Index,
+    pub offset: i8,
 }
 
 impl Settings {
     /// "A fresh board has 00:00, 01 01 00, format S, speaker off, address 00,
     /// no files", so that the index has no place, and so much unused memory.
+    /// Request 9: "Fresh boards hold 0."
     pub fn fresh(own_type: u8, unused: u16) -> Settings {
         Settings {
             hour: 0,
@@ -53,10 +57,11 @@ impl Settings {
             files: 0,
             unused,
             index: Index::empty(),
+            offset: 0,
         }
     }
 
-    /// The fields of one byte in the record's order.
+    /// The fields of one byte without a sign in the record's order.
     pub fn fields(self) -> [u8; FIELDS] {
         [
             self.hour,
@@ -72,7 +77,7 @@ impl Settings {
         ]
     }
 
-    /// The record with these fields of one byte.
+    /// The record with these fields of one byte without a sign.
     pub fn with_fields(self, fields: [u8; FIELDS]) -> Settings {
         let [hour, minute, month, day, year, format, speaker, address, own_type, files] = fields;
         Settings {
@@ -140,6 +145,21 @@ impl Settings {
         let digits = <[u8; 2]>::try_from(data).ok()?;
         let address = byte_value(digits, frame_digit)?;
         Some(Settings { address, ..self })
+    }
+
+    /// Request 9: "a sign and one digit 0 to 9, so -9 to 9, on every type, Solar
+    /// too. "-0" and "+0" store the same offset."
+    pub fn with_offset(self, data: &[u8]) -> Option<Settings> {
+        let [sign, digit @ b'0'..=b'9'] = *data else {
+            return None;
+        };
+        let degrees = (digit - b'0') as i8;
+        let offset = match sign {
+            PLUS => degrees,
+            MINUS => -degrees,
+            _ => return None,
+        };
+        Some(Settings { offset, ..self })
     }
 
     /// The time in the layout "HhMm".

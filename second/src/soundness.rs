@@ -1,6 +1,7 @@
 //! "A board is sound when all this holds and time, date, speaker, format, type
 //! are in range. Any address 00 to FF is in range." Request 3: "1 when the stored
-//! amount is wrong." Request 7: "1 when it is wrong."
+//! amount is wrong." Request 7: "1 when it is wrong." Request 9: "1 for an offset
+//! outside -9 to 9".
 
 use crate::bytes::{LOWEST_DATA, NUL};
 use crate::files::{walk, File, MOST_FILES};
@@ -8,6 +9,7 @@ use crate::header::is_own_type;
 use crate::index::Begin;
 use crate::record::Record;
 use crate::settings::{is_date, is_format, is_speaker, is_time, Settings};
+use crate::temperature::is_offset;
 use crate::unused::unused;
 
 /// "Memory is 64 to 32,768 bytes."
@@ -27,7 +29,7 @@ pub fn is_memory_length(length: usize) -> bool {
 }
 
 /// "time, date, speaker, format, type are in range", a date being one that
-/// exists; "It holds 0 to 64 files".
+/// exists, and the offset too; "It holds 0 to 64 files".
 fn settings_are_in_range(settings: Settings) -> bool {
     is_time(settings.hour, settings.minute)
         && is_date(settings.month, settings.day, settings.year)
@@ -35,6 +37,7 @@ fn settings_are_in_range(settings: Settings) -> bool {
         && is_speaker(settings.speaker)
         && is_own_type(settings.own_type)
         && usize::from(settings.files) <= MOST_FILES
+        && is_offset(settings.offset)
 }
 
 /// "in order without gaps"; "Memory after the last file is 00H."; the stored

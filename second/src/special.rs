@@ -1,7 +1,8 @@
 //! The special functions: "E" sets them, "F" reads them.
 
 use crate::bytes::{
-    COMMA, CONFIGURATION, DATE, POOL, SERIAL_ADDRESS, SPEAKER, TIME, TIME_FORMAT, WRITE_SPECIAL,
+    COMMA, CONFIGURATION, DATE, POOL, SERIAL_ADDRESS, SPEAKER, TEMPERATURE_OFFSET, TIME,
+    TIME_FORMAT, WRITE_SPECIAL,
 };
 use crate::commands::Board;
 use crate::configuration::{configure, Configured};
@@ -22,6 +23,7 @@ pub fn set(board: &mut Board<'_>, data: &[u8]) -> Result<(), Number> {
         TIME_FORMAT => settings.with_format(rest).ok_or(MALFORMED)?,
         DATE => settings.with_date(rest).ok_or(MALFORMED)?,
         SERIAL_ADDRESS => settings.with_address(rest).ok_or(MALFORMED)?,
+        TEMPERATURE_OFFSET => settings.with_offset(rest).ok_or(MALFORMED)?,
         CONFIGURATION => {
             let Configured {
                 files,
@@ -41,7 +43,8 @@ pub fn set(board: &mut Board<'_>, data: &[u8]) -> Result<(), Number> {
 }
 
 /// "F: labels 20H, "!", "'", ";", "$" and "#", without data. Replies use the
-/// layouts above".
+/// layouts above". Request 9 asks for no reading of the offset, so "T" is none of
+/// them.
 pub fn get(board: &Board<'_>, data: &[u8]) -> Result<Vec<u8>, Number> {
     let (&label, rest) = data.split_first().ok_or(MALFORMED)?;
     let settings = board.settings;

@@ -13,6 +13,7 @@ use crate::reforming::reform;
 use crate::renewal::{renewal, Renewed};
 use crate::run::{run, Ran};
 use crate::settings::{Settings, FIELDS};
+use crate::temperature::{temperature, Corrected};
 use crate::weekday::{weekday, Told};
 use crate::writing::write;
 
@@ -24,8 +25,9 @@ pub const JOIN_CALL: u8 = b'J';
 pub const RENEWAL_CALL: u8 = b'D';
 pub const WEEKDAY_CALL: u8 = b'Y';
 pub const DAYS_CALL: u8 = b'B';
+pub const TEMPERATURE_CALL: u8 = b'T';
 /// All call bytes.
-pub const CALLS: [u8; 8] = [
+pub const CALLS: [u8; 9] = [
     FRESH_CALL,
     RUN_CALL,
     WRITE_CALL,
@@ -34,6 +36,7 @@ pub const CALLS: [u8; 8] = [
     RENEWAL_CALL,
     WEEKDAY_CALL,
     DAYS_CALL,
+    TEMPERATURE_CALL,
 ];
 
 /// The line for a case that cannot be read.
@@ -44,8 +47,8 @@ const BAD_CASE: &[u8] = b"bad case\n";
 const INDEX_LENGTH: usize = 2 * LABELS;
 
 /// The bytes of a settings string: those of one byte a field, then the unused
-/// amount in two, then the index.
-const SETTINGS_LENGTH: usize = FIELDS + 2 + INDEX_LENGTH;
+/// amount in two, then the index, then the offset in one.
+const SETTINGS_LENGTH: usize = FIELDS + 2 + INDEX_LENGTH + 1;
 
 /// One call with its arguments.
 #[derive(Clone, Debug, PartialEq, Eq)]
@@ -89,6 +92,10 @@ pub enum Case {
         first: Date,
         second: Date,
     },
+    Temperature {
+        offset: i8,
+        reading: i16,
+    },
 }
 
 /// What a call gave, with the buffers as it left them.
@@ -110,6 +117,7 @@ pub enum Answer {
     Renewal(Renewed),
     Weekday(Told),
     Days(Between),
+    Temperature(Corrected),
 }
 
 impl Answer {
@@ -122,6 +130,7 @@ impl Answer {
             Answer::Renewal(renewed) => renewed.number,
             Answer::Weekday(told) => told.number,
             Answer::Days(between) => between.number,
+            Answer::Temperature(corrected) => corrected.number,
         }
     }
 
@@ -146,11 +155,12 @@ impl Case {
             Case::Renewal { .. } => RENEWAL_CALL,
             Case::Weekday { .. } => WEEKDAY_CALL,
             Case::Days { .. } => DAYS_CALL,
+            Case::Temperature { .. } => TEMPERATURE_CALL,
         }
     }
 
-    /// The same call with this output buffer; a call on a board or on dates has
-    /// none and stays as it is.
+    /// The same call with this output buffer; a call on a board, on dates or on
+    /// degrees has none and stays as it is.
     pub fn with_output(mut self, buffer: Vec<u8>) -> Case {
         match &mut self {
             Case::Write { output, .. }
@@ -160,7 +170,8 @@ impl Case {
             | Case::Run { .. }
             | Case::Renewal { .. }
             | Case::Weekday { .. }
-            | Case::Days { .. } => {}
+            | Case::Days { .. }
+            | Case::Temperature { .. } => {}
         }
         self
     }
@@ -214,6 +225,9 @@ impl Case {
             Case::Renewal { first, count } => Answer::Renewal(renewal(first, count)),
             Case::Weekday { date } => Answer::Weekday(weekday(date)),
             Case::Days { first, second } => Answer::Days(days_between(first, second)),
+            Case::Temperature { offset, reading } => {
+                Answer::Temperature(temperature(offset, reading))
+            }
         }
     }
 
@@ -279,6 +293,10 @@ impl Case {
                 push_date(&mut bytes, *first);
                 push_date(&mut bytes, *second);
             }
+            Case::Temperature { offset, reading } => {
+                bytes.extend(offset.to_be_bytes());
+                bytes.extend(reading.to_be_bytes());
+            }
         }
         bytes
     }
@@ -293,12 +311,14 @@ fn push_string(bytes: &mut Vec<u8>, string: &[u8]) {
 }
 
 /// Settings in a stream: "one byte a field", then "the unused amount, two
-/// bytes", then "the places of the labels 20H to 7EH". "A number of two bytes has
-/// its most significant byte first".
+/// bytes", then "the places of the labels 20H to 7EH", then "the offset, one byte,
+/// signed". "A number of two bytes has its most significant byte first; a signed
+/// one is in two's complement."
 fn settings_bytes(settings: Settings) -> Vec<u8> {
     let mut bytes = settings.fields().to_vec();
     bytes.extend(settings.unused.to_be_bytes());
     bytes.extend(index_bytes(&settings.index));
+    bytes.extend(settings.offset.to_be_bytes());
     bytes
 }
 
@@ -317,10 +337,12 @@ fn settings_of(string: &[u8]) -> Option<Settings> {
         return None;
     }
     let (fields, rest) = string.split_at_checked(FIELDS)?;
-    let (unused, entries) = rest.split_at_checked(2)?;
+    let (unused, rest) = rest.split_at_checked(2)?;
+    let (entries, offset) = rest.split_at_checked(INDEX_LENGTH)?;
     let settings = Settings {
         unused: u16::from_be_bytes(unused.try_into().ok()?),
         index: index_of(entries),
+        offset: i8::from_be_bytes(offset.try_into().ok()?),
         ..Settings::default()
     };
     Some(settings.with_fields(fields.try_into().ok()?))
@@ -415,6 +437,10 @@ fn read_arguments(call: u8, input: &mut impl BufRead) -> io::Result<Option<Case>
             first: read_date(input)?,
             second: read_date(input)?,
         },
+        TEMPERATURE_CALL => Case::Temperature {
+            offset: i8::from_be_bytes(read_bytes(input)?),
+            reading: i16::from_be_bytes(read_bytes(input)?),
+        },
         _ => return Ok(None),
     };
     Ok(Some(case))
@@ -486,6 +512,10 @@ pub fn line(answer: &Answer) -> Vec<u8> {
             line.number(between.number);
             line.number(between.days);
         }
+        Answer::Temperature(corrected) => {
+            line.number(corrected.number);
+            line.number(corrected.sum);
+        }
     }
     line.end()
 }
@@ -521,6 +551,7 @@ impl Line {
         }
         self.number(settings.unused);
         self.string(&index_bytes(&settings.index));
+        self.number(settings.offset);
     }
 
     fn string(&mut self, string: &[u8]) {

@@ -3,7 +3,7 @@
 //! since some first date.
 
 use crate::dates::Date;
-use crate::numbers::{Number, DONE, NO_SUCH_DATE};
+use crate::numbers::{answered, Number, NO_SUCH_DATE};
 
 const DAYS_OF_WEEK: u16 = 7;
 const MONTHS_OF_YEAR: u16 = 12;
@@ -21,17 +21,9 @@ pub struct Told {
 
 /// The weekday of a date; 0 where it does not exist.
 pub fn weekday(date: Date) -> Told {
-    if date.exists() {
-        Told {
-            number: DONE,
-            weekday: weekday_of(date),
-        }
-    } else {
-        Told {
-            number: NO_SUCH_DATE,
-            weekday: 0,
-        }
-    }
+    let weekday = date.exists().then(|| weekday_of(date));
+    let (number, weekday) = answered(weekday.ok_or(NO_SUCH_DATE));
+    Told { number, weekday }
 }
 
 /// The weekday of a date that exists.

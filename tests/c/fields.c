@@ -1,6 +1,6 @@
 /* Each field of each struct of pagozkin.h, by name, after calls that give every field of a struct another value; unused amounts and
  * indices that are right and that are wrong; dates that exist and dates that do not; renewal dates, weekdays and days between dates;
- * what a read leaves in its room; and each call with empty slices. */
+ * temperature offsets and readings; what a read leaves in its room; and each call with empty slices. */
 #include "expect.h"
 
 #include <pagozkin.h>
@@ -12,7 +12,7 @@ static uint8_t memory[MEMORY];
 static uint8_t reply[MEMORY + PAGOZKIN_REPLY_ROOM];
 static uint8_t room[PAGOZKIN_ROOM];
 
-/* Six settings are set, two blocks of an unknown command refused (the first at place 3), the time is read. */
+/* Seven settings are set, two blocks of an unknown command refused (the first at place 3), the time is read. */
 static const char every_setting[] = "\0\0\0\0\0\001Z00"
                                     "\002E 1234\003"
                                     "\002E;050607\003"
@@ -21,6 +21,7 @@ static const char every_setting[] = "\0\0\0\0\0\001Z00"
                                     "\002E'M\003"
                                     "\002E!00\003"
                                     "\002E71F\003"
+                                    "\002ET-3\003"
                                     "\002E$AAU0010FF00BAU0010FF00\003"
                                     "\002F \004";
 
@@ -32,6 +33,7 @@ static pagozkin_settings board(void)
     IS(made.settings.unused, 0);
     for (size_t i = 0; i < PAGOZKIN_PLACES; i++)
         IS(made.settings.places[i], 0);
+    IS(made.settings.offset, 0);
     made = pagozkin_fresh('C', memory, MEMORY);
     IS(made.number, PAGOZKIN_DONE);
     IS(made.settings.month, 1);
@@ -41,6 +43,7 @@ static pagozkin_settings board(void)
     IS(made.settings.unused, MEMORY);
     for (size_t i = 0; i < PAGOZKIN_PLACES; i++)
         IS(made.settings.places[i], PAGOZKIN_NOWHERE);
+    IS(made.settings.offset, 0);
     return made.settings;
 }
 
@@ -49,7 +52,7 @@ static void runs(void)
     pagozkin_settings fresh = board();
     pagozkin_answer a = pagozkin_run(fresh, memory, MEMORY, reply, sizeof reply, BYTES(every_setting));
     IS(a.number, PAGOZKIN_DONE);
-    IS(a.tally.done, 7);
+    IS(a.tally.done, 8);
     IS(a.tally.refused, 2);
     IS(a.tally.place, 3);
     IS(a.tally.reason, PAGOZKIN_BLOCK_UNKNOWN);
@@ -64,6 +67,7 @@ static void runs(void)
     IS(a.settings.address, 0x1F);
     IS(a.settings.own, 'C');
     IS(a.settings.files, 2);
+    is("an offset below 0", a.settings.offset == -3, 1);
     IS(a.settings.unused, MEMORY - 2 * (PAGOZKIN_RECORD + 0x10));
     IS(a.settings.places['A' - PAGOZKIN_FIRST_LABEL], 0);
     IS(a.settings.places['B' - PAGOZKIN_FIRST_LABEL], PAGOZKIN_RECORD + 0x10);
@@ -79,8 +83,8 @@ static void runs(void)
     IS(a.settings.minute, 34);
 }
 
-/* What settings of an older version have to be given: memory's length less, for each file, its record and its SIZE; and for each label
- * where its record begins. */
+/* What settings of an older version have to be given: memory's length less, for each file, its record and its SIZE; for each label
+ * where its record begins; and an offset. */
 static void give(pagozkin_settings *s)
 {
     size_t at = 0;
@@ -94,6 +98,13 @@ static void give(pagozkin_settings *s)
         at += PAGOZKIN_RECORD + size;
     }
     s->unused = (uint16_t)(MEMORY - at);
+    s->offset = 0;
+}
+
+/* Whether two settings are the same, field by field: behind the last stands a byte of no meaning. */
+static int same(const pagozkin_settings *a, const pagozkin_settings *b)
+{
+    return memcmp(a, b, offsetof(pagozkin_settings, offset) + sizeof a->offset) == 0;
 }
 
 /* A board that is not sound: 1, and its settings come back as they were. */
@@ -102,7 +113,7 @@ static void unsound(const char *what, pagozkin_settings s)
     is(what, pagozkin_is_sound(s, memory, MEMORY), 0);
     pagozkin_answer a = pagozkin_run(s, memory, MEMORY, reply, sizeof reply, BYTES("_01Z00_02F#_04"));
     is(what, a.number, PAGOZKIN_NOT_SOUND);
-    is("the settings of a refused run", (size_t)memcmp(&a.settings, &s, sizeof s), 0);
+    is("the settings of a refused run are those handed in", (size_t)same(&a.settings, &s), 1);
 }
 
 /* No other place of a label is sound, for each label. */
@@ -141,9 +152,10 @@ static void amounts(void)
         pagozkin_settings given = s;
         given.unused = 0;
         memset(given.places, 0, sizeof given.places);
+        given.offset = 100;
         unsound("a board of an older version", given);
         give(&given);
-        is("what it has to be given", (size_t)memcmp(&given, &s, sizeof s), 0);
+        is("with what it has to be given it is the same", (size_t)same(&given, &s), 1);
         misplaced(s);
         pagozkin_answer a = pagozkin_run(s, memory, MEMORY, reply, sizeof reply, BYTES("_01Z00_02F#_04"));
         IS(a.tally.done, 1);
@@ -308,6 +320,39 @@ static void days(void)
     IS(a.days, 0);
 }
 
+/* Every offset on a board, and with every reading that is near a limit: outside -9 to 9 it is 1, then 33 for a reading outside -128 to
+ * 127, else the exact sum. */
+static void temperatures(void)
+{
+    static const int far[] = {-32768, -32767, -256, -255, 255, 256, 32766, 32767};
+    pagozkin_settings s = board();
+    for (int offset = -128; offset <= 127; offset++) {
+        const int good = -PAGOZKIN_MOST_OFFSET <= offset && offset <= PAGOZKIN_MOST_OFFSET;
+        s.offset = (int8_t)offset;
+        if (good)
+            is("a board with that offset", pagozkin_is_sound(s, memory, MEMORY), 1);
+        else
+            unsound("a board with an offset outside", s);
+        for (int i = -200; i < 200 + (int)(sizeof far / sizeof far[0]); i++) {
+            const int reading = i < 200 ? i : far[i - 200];
+            const int read = PAGOZKIN_LEAST_READING <= reading && reading <= PAGOZKIN_MOST_READING;
+            pagozkin_corrected c = pagozkin_add_offset(s.offset, (int16_t)reading);
+            IS(c.number, !good ? PAGOZKIN_OFFSET_OUTSIDE : !read ? PAGOZKIN_READING_OUTSIDE : PAGOZKIN_DONE);
+            is("the exact sum", c.sum == (good && read ? reading + offset : 0), 1);
+        }
+    }
+    for (char digit = '0'; digit <= '9'; digit++) {
+        char sent[] = "_01Z00_02ET+0_04";
+        sent[12] = digit;
+        s = board();
+        s = pagozkin_run(s, memory, MEMORY, reply, sizeof reply, BYTES(sent)).settings;
+        is("an offset that was set", s.offset == digit - '0', 1);
+        sent[11] = '-';
+        s = pagozkin_run(s, memory, MEMORY, reply, sizeof reply, BYTES(sent)).settings;
+        is("an offset below 0 that was set", s.offset == '0' - digit, 1);
+    }
+}
+
 /* A length of 0 asks nothing of its pointer. */
 static void empties(void)
 {
@@ -332,6 +377,7 @@ int main(void)
     dates();
     renewals();
     days();
+    temperatures();
     writes();
     reads();
     rooms();

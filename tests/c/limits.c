@@ -182,6 +182,23 @@ static void renewals(void)
     is("a result too late", renewed(PAGOZKIN_LAST_YEAR, 12, 1), PAGOZKIN_RESULT_OUTSIDE);
 }
 
+static uint8_t offset(int8_t n, int16_t reading)
+{
+    return pagozkin_add_offset(n, reading).number;
+}
+
+static void temperatures(void)
+{
+    is("the coldest offset", offset(-PAGOZKIN_MOST_OFFSET, 0), PAGOZKIN_DONE);
+    is("an offset too cold", offset(-PAGOZKIN_MOST_OFFSET - 1, 0), PAGOZKIN_OFFSET_OUTSIDE);
+    is("the warmest offset", offset(PAGOZKIN_MOST_OFFSET, 0), PAGOZKIN_DONE);
+    is("an offset too warm", offset(PAGOZKIN_MOST_OFFSET + 1, 0), PAGOZKIN_OFFSET_OUTSIDE);
+    is("the coldest reading", offset(0, PAGOZKIN_LEAST_READING), PAGOZKIN_DONE);
+    is("a reading too cold", offset(0, PAGOZKIN_LEAST_READING - 1), PAGOZKIN_READING_OUTSIDE);
+    is("the warmest reading", offset(0, PAGOZKIN_MOST_READING), PAGOZKIN_DONE);
+    is("a reading too warm", offset(0, PAGOZKIN_MOST_READING + 1), PAGOZKIN_READING_OUTSIDE);
+}
+
 int main(void)
 {
     own_types();
@@ -192,5 +209,6 @@ int main(void)
     counts();
     results();
     renewals();
+    temperatures();
     return faults != 0;
 }

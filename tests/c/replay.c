@@ -31,6 +31,9 @@ static int16_t months;
 static pagozkin_renewed renewed;
 static pagozkin_day_of_week day;
 static pagozkin_days_apart apart;
+static int8_t offset;
+static int16_t reading;
+static pagozkin_corrected corrected;
 
 /* what is_sound, read and step answer beside a run */
 static uint8_t sound;
@@ -59,6 +62,21 @@ static int read_wide(uint16_t *n)
     if (!read_number(&high) || !read_number(&low))
         return 0;
     *n = (uint16_t)(high * 256 + low);
+    return 1;
+}
+
+/* What eight bits stand for in two's complement. */
+static int8_t signed_byte(uint8_t bits)
+{
+    return (int8_t)(bits < 0x80 ? bits : bits - 0x100);
+}
+
+static int read_signed_byte(int8_t *n)
+{
+    uint8_t bits;
+    if (!read_number(&bits))
+        return 0;
+    *n = signed_byte(bits);
     return 1;
 }
 
@@ -96,7 +114,7 @@ static int read_string(string *s)
 static int read_settings(void)
 {
     const uint8_t *s = bytes(&d);
-    if (!read_string(&d) || d.length != 12 + 2 * PAGOZKIN_PLACES)
+    if (!read_string(&d) || d.length != 12 + 2 * PAGOZKIN_PLACES + 1)
         return 0;
     settings.hour = s[0];
     settings.minute = s[1];
@@ -111,6 +129,7 @@ static int read_settings(void)
     settings.unused = (uint16_t)(s[10] * 256 + s[11]);
     for (size_t i = 0; i < PAGOZKIN_PLACES; i++)
         settings.places[i] = (uint16_t)(s[12 + 2 * i] * 256 + s[13 + 2 * i]);
+    settings.offset = signed_byte(s[12 + 2 * PAGOZKIN_PLACES]);
     return 1;
 }
 
@@ -134,7 +153,7 @@ static void print_settings(pagozkin_settings s)
            s.files, s.unused);
     for (size_t i = 0; i < PAGOZKIN_PLACES; i++)
         printf("%04X", s.places[i]);
-    putchar(' ');
+    printf(" %d ", s.offset);
 }
 
 static void print_written(string *out)
@@ -198,6 +217,11 @@ static void call_weekday(void)
 static void call_days_between(void)
 {
     apart = pagozkin_days_between(date, second);
+}
+
+static void call_add_offset(void)
+{
+    corrected = pagozkin_add_offset(offset, reading);
 }
 
 static int is_guarded(string *s)
@@ -343,6 +367,16 @@ static int case_days_between(void)
     return 0;
 }
 
+static int case_add_offset(void)
+{
+    if (!read_signed_byte(&offset) || !read_signed(&reading))
+        return 2;
+    if (!called(call_add_offset, PAGOZKIN_STACK_ADD_OFFSET))
+        return 1;
+    printf("%u %d", corrected.number, corrected.sum);
+    return 0;
+}
+
 static int one_case(int call)
 {
     switch (call) {
@@ -362,6 +396,8 @@ static int one_case(int call)
         return case_weekday();
     case 'B':
         return case_days_between();
+    case 'T':
+        return case_add_offset();
     default:
         return 2;
     }

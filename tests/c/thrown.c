@@ -16,6 +16,7 @@ pagozkin_block_places block;
 pagozkin_renewed renewed;
 pagozkin_day_of_week day;
 pagozkin_days_apart apart;
+pagozkin_corrected corrected;
 
 void calls(pagozkin_settings settings, pagozkin_date date, uint8_t *a, uint8_t *b, const uint8_t *c, size_t n);
 
@@ -32,4 +33,5 @@ void calls(pagozkin_settings settings, pagozkin_date date, uint8_t *a, uint8_t *
     ANSWER(renewed) pagozkin_renewal_date(date, 1);
     ANSWER(day) pagozkin_weekday(date);
     ANSWER(apart) pagozkin_days_between(date, date);
+    ANSWER(corrected) pagozkin_add_offset(0, 0);
 }

@@ -3,10 +3,11 @@ use crate::Settings;
 use dates::calendar::FIRST_YEAR;
 use dates::calendar::is_date;
 use frame::is_own_type;
+use temperature::offset::is_offset;
 ghost use mathlib.Core.Path.{_≡_};
 ghost use mathlib.Core.Bool.{_&&_, _||_};
 ghost use Rattle.octets.specs.Choice.{_is_, _≤?_};
-ghost use Rattle.board.specs.Settings.{FORMAT-S, FORMAT-M, OFF, ON, inDate, inRange, withTime, withDate, withFormat, withSpeaker, withAddress, withFiles};
+ghost use Rattle.board.specs.Settings.{FORMAT-S, FORMAT-M, OFF, ON, inDate, inRange, withTime, withDate, withFormat, withSpeaker, withAddress, withOffset, withFiles};
 
 // time formats "S" and "M"
 pub const FORMAT_S: u8 = 0x53;
@@ -67,6 +68,14 @@ impl Settings {
         next
     }
 
+    pub fn with_offset(self, offset: i8) -> Settings
+        ensures { λ r. ⌜ r ≡ withOffset self offset ⌝ }
+    {
+        let mut next = self;
+        next.offset = offset;
+        next
+    }
+
     // All that "$" changes.
     pub fn with_files(self, files: u8, unused: u16, places: [u16; 95]) -> Settings
         ensures { λ r. ⌜ r ≡ withFiles self files unused places ⌝ }
@@ -107,7 +116,7 @@ fn is_speaker(speaker: u8) -> bool
     speaker == OFF || speaker == ON
 }
 
-// "time, date, speaker, format, type are in range. Any address 00 to FF is in range."
+// "time, date, speaker, format, type are in range. Any address 00 to FF is in range."; request 9: an offset is -9 to 9.
 pub fn in_range(s: Settings) -> bool
     ensures { λ r. ⌜ r ≡ inRange s ⌝ }
 {
@@ -123,5 +132,8 @@ pub fn in_range(s: Settings) -> bool
     if !is_speaker(s.speaker) {
         return false;
     }
-    is_own_type(s.own)
+    if !is_own_type(s.own) {
+        return false;
+    }
+    is_offset(s.offset)
 }

@@ -6,6 +6,7 @@ use Rattle.signed.specs.Floor.{floorDiv, floorMod}
 use Rattle.renewal.specs.Counting.{exists, monthNumber, lengthOf, daysBefore, dayNumber}
 use Rattle.renewal.specs.Renewing.{isCount, yearOf, monthOf, isYear, kept, reached, renewalDate}
 use Rattle.renewal.specs.Days.{weekday, daysBetween}
+use Rattle.temperature.specs.Correcting.{isReading, addOffset}
 use Rattle.sheet.specs.Sheet.{bytes, start, inTurn, onFresh}
 use Rattle.sheet.proofs.Computing.{base}
 use Rattle.cases.specs.Numbers.{numberOf, blockNumber, holds, allHold, times, numbersTable}
@@ -13,6 +14,7 @@ use Rattle.cases.specs.Dates.{eachWay, datesTable}
 use Rattle.cases.specs.Unused.{wrongOn, unusedTable}
 use Rattle.cases.specs.Index.{misplaced, indexTable}
 use Rattle.cases.specs.Renewals.{AllAnswer, renewalsTable}
+use Rattle.cases.specs.Temperatures.{offsetsTable, AllMeasure, temperaturesTable}
 use Rattle.cases.specs.Witnesses.{AllShow, witnesses}
 
 pub numbers : allHold numbersTable ≡ true
@@ -39,6 +41,14 @@ unfolding
     isCount yearOf monthOf isYear kept reached renewalDate
     weekday daysBetween
 renewals = (refl, (refl, (refl, (refl, (refl, (refl, (refl, (refl, (refl, (refl, (refl, (refl, (refl, (refl, (refl, (refl, (refl, (refl, (refl, (refl, (refl, (refl, (refl, (refl, (refl, (refl, (refl, (refl, (refl, (refl, (refl, (refl, (refl, (refl, (refl, (refl, (refl, (refl, (refl, (refl, (refl, tt)))))))))))))))))))))))))))))))))))))))))
+
+pub offsets : allHold offsetsTable ≡ true
+unfolding numberOf blockNumber holds allHold offsetsTable bytes start inTurn onFresh base
+offsets = refl
+
+pub temperatures : AllMeasure temperaturesTable
+unfolding temperaturesTable isReading addOffset bytes base
+temperatures = (refl, (refl, (refl, (refl, (refl, (refl, (refl, (refl, (refl, (refl, (refl, (refl, (refl, (refl, (refl, (refl, (refl, (refl, (refl, (refl, (refl, (refl, (refl, (refl, (refl, tt)))))))))))))))))))))))))
 
 pub shown : AllShow witnesses
 unfolding witnesses bytes start inTurn onFresh base

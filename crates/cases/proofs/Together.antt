@@ -8,8 +8,7 @@ use Rattle.octets.specs.Buffer.{zeros}
 use Rattle.writing.specs.Joining.{join}
 use Rattle.frame.specs.Results.{resultOf}
 use Rattle.board.specs.Soundness.{sound}
-use Rattle.board.specs.declared.Settings.{Settings}
-use Rattle.sign.specs.Run.{tally, Outcome, run}
+use Rattle.sign.specs.Run.{tally, Outcome}
 use Rattle.sign.specs.Packing.{next}
 use Rattle.packing.specs.Packed.{Joining, SameAsInTurn}
 use Rattle.packing.proofs.Answer.{packed}

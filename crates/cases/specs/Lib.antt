@@ -3,4 +3,5 @@ pub mod Dates
 pub mod Unused
 pub mod Index
 pub mod Renewals
+pub mod Temperatures
 pub mod Witnesses

@@ -3,6 +3,7 @@
 use Prim.Native.Nat.{ℕ}
 use mathlib.Core.Path.{_≡_, refl, sym, _∙_}
 use mathlib.Core.List.{List}
+use lib.IntN.{ℤ}
 use mathlib.Core.Bool.{Bool, true, false, _&&_, _||_}
 use lib.ListN.{length, drop}
 use Rattle.octets.specs.Choice.{_is_, _≤?_, _!_, all}
@@ -10,11 +11,13 @@ use Rattle.octets.specs.Carried.{isCarried2, carried2}
 use Rattle.octets.specs.Decimal.{isDecimal, decimal2}
 use Rattle.octets.specs.Bytes.{ZERO, F}
 use Rattle.octets.proofs.Tests.{choice, never, split}
+use Rattle.temperature.specs.Offset.{isSignedDigit}
+use Rattle.temperature.proofs.Spelling.{set-offset}
 use Rattle.board.specs.Settings.{FORMAT-S, FORMAT-M, OFF, ON, inDate, inRange, setTo}
 use Rattle.board.specs.Soundness.{keepsTrue}
 use Rattle.board.specs.declared.Settings.{Settings}
-use Rattle.board.proofs.Ranges.{time-ranged, date-ranged, format-ranged, speaker-ranged, address-ranged}
-use Rattle.special.specs.Special.{TIME, SPEAKER, FORMAT, DATE, ADDRESS, Change, to, setTime, setSpeaker, setFormat, setDate, setAddress, setBy}
+use Rattle.board.proofs.Ranges.{time-ranged, date-ranged, format-ranged, speaker-ranged, address-ranged, offset-ranged}
+use Rattle.special.specs.Special.{TIME, SPEAKER, FORMAT, DATE, ADDRESS, OFFSET, Change, to, setTime, setSpeaker, setFormat, setDate, setAddress, setOffset, setBy}
 
 -- what a special function keeps of the settings s; the test says whether it may set the address
 pub record Kept (moves : Bool) (s : Settings) (c : Change) : Type 0 where
@@ -31,9 +34,9 @@ module _ (x : Bool) (s : Settings) (d : List ℕ) where
   stays =
       record { own = refl; files = refl; kept = λ m. refl; address = λ n. refl; ranged = λ g. g; refused = λ n. refl }
 
-  -- another time, date, format, speaker or address
-  sets : {h n m d y f v a : ℕ} → (x ≡ false → a ≡ s .address) → (inRange s ≡ true → inRange (setTo s h n m d y f v a) ≡ true) →
-      Kept x s (to (setTo s h n m d y f v a))
+  -- another time, date, format, speaker, address or offset
+  sets : {h n m d y f v a : ℕ} {t : ℤ} → (x ≡ false → a ≡ s .address) → (inRange s ≡ true → inRange (setTo s h n m d y f v a t) ≡ true) →
+      Kept x s (to (setTo s h n m d y f v a t))
   unfolding keepsTrue
   sets e r =
       record { own = refl; files = refl; kept = λ m. refl; address = e; ranged = r; refused = λ n. absurd (n refl) }
@@ -87,6 +90,14 @@ module _ (x : Bool) (s : Settings) (d : List ℕ) where
       (λ e. sets (λ n. never (sym t ∙ n)) (λ g. address-ranged s g (carried2 d)))
       (λ e. stays)
 
+  -- setting the temperature offset
+  pub offset-keeps : Kept x s (setOffset s d)
+  unfolding setOffset
+  offset-keeps =
+      choice (Kept x s) (isSignedDigit d)
+      (λ e. sets (λ n. refl) (λ g. offset-ranged s g _ (set-offset d e)))
+      (λ e. stays)
+
   -- whichever it is, by its label
   pub set-keeps : (label : ℕ) → ((label is ADDRESS) ≡ true → x ≡ true) → Kept x s (setBy s label d)
   unfolding setBy
@@ -95,4 +106,5 @@ module _ (x : Bool) (s : Settings) (d : List ℕ) where
       choice (Kept x s) (label is SPEAKER) (λ e. speaker-keeps) (λ e.
       choice (Kept x s) (label is FORMAT) (λ e. format-keeps) (λ e.
       choice (Kept x s) (label is DATE) (λ e. date-keeps) (λ e.
-      choice (Kept x s) (label is ADDRESS) (λ e. address-keeps (t e)) (λ e. stays)))))
+      choice (Kept x s) (label is ADDRESS) (λ e. address-keeps (t e)) (λ e.
+      choice (Kept x s) (label is OFFSET) (λ e. offset-keeps) (λ e. stays))))))

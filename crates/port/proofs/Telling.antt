@@ -1,12 +1,12 @@
--- What C is told of a frame, of a block and of a renewal, case by case.
+-- What C is told of a frame, of a block, of a renewal and of a reading, case by case.
 use Prim.Native.Nat.{ℕ}
-use mathlib.Core.Path.{_≡_, refl, sym, ap, _∙_}
+use mathlib.Core.Path.{_≡_, refl, sym, ap, ap₂, _∙_}
 use mathlib.Core.Bool.{Bool}
 use mathlib.Core.List.{List}
 use lib.ListN.{length}
 use borrow.Author.Needs.{needs}
 use lib.IntN.{ℤ}
-use mir.Syntax.{w16}
+use mir.Syntax.{w8, w16}
 use mir.Val.{SFits}
 use mir.Facts.{toZ-ofZ}
 use Rattle.body.specs.Readers.{placeBehind}
@@ -18,6 +18,8 @@ use Rattle.signed.proofs.Held.{held}
 use Rattle.renewal.specs.Renewing.{renewalDate}
 use Rattle.renewal.specs.declared.Date.{Date}
 use Rattle.renewal.specs.declared.Renewed.{Renewed}
+use Rattle.temperature.specs.Correcting.{addOffset}
+use Rattle.temperature.specs.declared.Corrected.{Corrected}
 use Rattle.port.specs.Truth.{truth}
 use Rattle.port.specs.declared.Places.{Places}
 use Rattle.port.specs.declared.BlockPlaces.{BlockPlaces}
@@ -65,3 +67,10 @@ pub told-renewed : (first : Date) (n : ℤ) (r : Renewed) → SFits w16 n → r 
 told-renewed first n r f e = e ∙ ap (renewalDate first) (toZ-ofZ f)
 
 pub ruleset renewing = (told-renewed, needs)
+
+-- ---- a reading of a temperature: offset and reading are passed on as their bits
+
+pub told-corrected : (o n : ℤ) (r : Corrected) → SFits w8 o → SFits w16 n → r ≡ addOffset (held w8 o) (held w16 n) → r ≡ addOffset o n
+told-corrected o n r f g e = e ∙ ap₂ addOffset (toZ-ofZ f) (toZ-ofZ g)
+
+pub ruleset correcting = (told-corrected, needs)

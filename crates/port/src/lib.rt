@@ -4,6 +4,7 @@ pub mod blocks;
 pub mod dates;
 pub mod frames;
 pub mod signs;
+pub mod temperatures;
 mod truth;
 
 // What reading a frame tells C: a number; whether the frame is printable (1) or standard (0); how many bytes it stands for;

@@ -11,7 +11,10 @@ use renewal::Date;
 use sign::Answer;
 use sign::Tally;
 use signed::plain::from_bits;
+use signed::plain::from_byte;
 use signed::plain::size;
+use signed::plain::widen;
+use signed::plain::widen_byte;
 use writing::Written;
 
 // What reading an argument finds: how many bytes it has, and whether the input held them all.
@@ -237,6 +240,8 @@ fn print_settings(s: Settings) {
     number(s.unused as u64);
     print_places(&s.places);
     space();
+    print_signed(widen_byte(s.offset));
+    space();
 }
 
 fn print_tally(t: Tally) {
@@ -255,8 +260,8 @@ fn print_answer(r: Answer) {
     print_settings(next);
 }
 
-// The settings string: a byte for each of the ten settings, two for the unused amount and for each label's place.
-const SETTINGS: usize = 202;
+// The settings string: a byte for each of the ten settings, two for the unused amount and for each label's place, one for the offset.
+const SETTINGS: usize = 203;
 
 fn places(set: &[u8]) -> [u16; 95]
     requires { ⌜ 202 ≤ length (now set) ⌝ }
@@ -271,7 +276,7 @@ fn places(set: &[u8]) -> [u16; 95]
 }
 
 fn settings(set: &[u8]) -> Settings
-    requires { ⌜ 202 ≤ length (now set) ⌝ }
+    requires { ⌜ 203 ≤ length (now set) ⌝ }
 {
     Settings {
         hour: set[0],
@@ -286,6 +291,7 @@ fn settings(set: &[u8]) -> Settings
         files: set[9],
         unused: two(set[10], set[11]),
         places: places(set),
+        offset: from_byte(set[202]),
     }
 }
 
@@ -467,6 +473,25 @@ fn case_b() -> bool {
     call_b(first, second)
 }
 
+fn call_t(offset: i8, reading: i16) -> bool {
+    let r = temperature::correcting::add_offset(offset, reading);
+    number(r.number as u64);
+    print_signed(widen(r.sum));
+    line();
+    true
+}
+
+fn case_t() -> bool {
+    let mut b = [0u8; 3];
+    let n = io::read_full(STDIN_FILENO, &mut b);
+    if n != 3 {
+        return bad();
+    }
+    let offset = from_byte(b[0]);
+    let reading = from_bits(two(b[1], b[2]));
+    call_t(offset, reading)
+}
+
 // The arrays are main's, so that they are made once; each case has as much of them as it read.
 // A callee that takes an array, and no slice, asks no proof of its length.
 fn one_case(a: &mut [u8; 65535], b: &mut [u8; 65535], c: &mut [u8; 65535]) -> bool {
@@ -496,6 +521,9 @@ fn one_case(a: &mut [u8; 65535], b: &mut [u8; 65535], c: &mut [u8; 65535]) -> bo
     }
     if call == b'B' {
         return case_b();
+    }
+    if call == b'T' {
+        return case_t();
     }
     bad()
 }

@@ -1,5 +1,6 @@
 -- The definitions of the base, under one name.
 use Rattle.dates.specs.Calendar.{february, monthLength, isDate}
+use Rattle.temperature.specs.Offset.{isSignedDigit, signedDigit, isOffset}
 use Rattle.board.specs.Settings.{inRange}
 use Rattle.board.specs.Files.{sizeOf, filesOf, heads, used, unused, labels, distinct, isAt, find}
 use Rattle.board.specs.Index.{entry, namesEach, namesNoOther, isIndex, entered, indexOf}
@@ -8,7 +9,7 @@ use Rattle.effects.specs.Reply.{replyOf}
 use Rattle.commands.specs.Commands.{holding, putMessage, writeFile, getContent, readFile}
 use Rattle.records.specs.Records.{isRecords, labelsIn, neededBy, needed, refusal, sizeIn, stored, laid}
 use Rattle.special.specs.Configuration.{configure}
-use Rattle.special.specs.Special.{setTime, setSpeaker, setFormat, setDate, setAddress, setBy, writeSpecial, tellTime, tellDate, tellSpeaker, tellPool, isTold, tell, readSpecial}
+use Rattle.special.specs.Special.{setTime, setSpeaker, setFormat, setDate, setAddress, setOffset, setBy, writeSpecial, tellTime, tellDate, tellSpeaker, tellPool, isTold, tell, readSpecial}
 use Rattle.commands.specs.Blocks.{command, runBlock}
 use Rattle.sign.specs.Run.{count, measure, onto, runBlocks, runFrame, run}
 use Rattle.sign.specs.Fresh.{fresh}
@@ -20,6 +21,7 @@ unfoldable pub base : Unit {0}
 unfolding
     writes
     february monthLength isDate
+    isSignedDigit signedDigit isOffset
     inRange
     sizeOf filesOf heads used unused labels distinct isAt find
     entry namesEach namesNoOther isIndex entered indexOf
@@ -27,7 +29,7 @@ unfolding
     replyOf
     holding putMessage writeFile getContent readFile
     isRecords labelsIn neededBy needed refusal sizeIn stored laid configure
-    setTime setSpeaker setFormat setDate setAddress setBy writeSpecial tellTime tellDate tellSpeaker tellPool isTold tell readSpecial
+    setTime setSpeaker setFormat setDate setAddress setOffset setBy writeSpecial tellTime tellDate tellSpeaker tellPool isTold tell readSpecial
     command runBlock
     count measure onto runBlocks runFrame run
     fresh

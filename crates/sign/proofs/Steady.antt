@@ -16,14 +16,15 @@ use Rattle.body.specs.Body.{Block, isRead}
 use Rattle.body.proofs.Plain.{Plain}
 use Rattle.reading.specs.Reading.{Reading, refused, frame, read}
 use Rattle.reading.proofs.FrameLaws.{read-plain}
+use Rattle.temperature.specs.Offset.{isOffset}
 use Rattle.board.specs.Settings.{inRange, withFiles}
 use Rattle.board.specs.Files.{filesOf, used, unused, labels, distinct}
 use Rattle.board.specs.Index.{ENTRIES, isIndex, entered}
 use Rattle.board.specs.Soundness.{holdsFiles, isMemory, sound}
 use Rattle.board.specs.declared.Settings.{Settings}
-use Rattle.board.proofs.Ranges.{first-date}
+use Rattle.board.proofs.Ranges.{range, first-date}
 use Rattle.board.proofs.Contents.{zeros-nul}
-use Rattle.board.proofs.Inside.{sound-unused, sound-index, sound-distinct}
+use Rattle.board.proofs.Inside.{sound-ranged, sound-unused, sound-index, sound-distinct}
 use Rattle.board.proofs.Indexing.{index-true, index-one}
 use Rattle.board.proofs.SoundParts.{whole, kept-true, sound-whole}
 use Rattle.effects.specs.Effects.{board}
@@ -153,7 +154,7 @@ SoundIfMade x = x .answer .number ≡ 0 → sound (x .answer .settings) (x .memo
 -- a fresh board that was made is sound
 pub fresh-sound : (t : ℕ) (m : List ℕ) → fresh t m .answer .number ≡ 0 →
     sound (fresh t m .answer .settings) (fresh t m .memory) ≡ true
-unfolding fresh inRange holdsFiles labels filesOf distinct used unused entered
+unfolding fresh inRange isOffset holdsFiles labels filesOf distinct used unused entered
 fresh-sound t m =
     choice SoundIfMade (not (isOwnType t)) (λ e z. absurd (omega arith)) (λ e.
     choice SoundIfMade (not (isMemory (length m))) (λ g z. absurd (omega arith)) (λ g z.
@@ -161,14 +162,18 @@ fresh-sound t m =
     let l = length-zeros (length m) in
     sound-whole s (zeros (length m))
     (record {
-      ranged = rw first-date (not-false (isOwnType t) e);
+      ranged = rw (first-date, not-false (isOwnType t) e);
       filed =
           whole 0 (zeros (length m))
           (record { long = rw l (not-false (isMemory (length m)) g); few = refl; held = zeros-nul (length m) });
       kept = kept-true s (zeros (length m)) (record { unused = omega (arith, l); index = index-true [] tt refl });
     })))
 
--- ---- what the settings keep of memory
+-- ---- what the settings keep
+
+-- request 9: a sound board's offset is -9 to 9
+sound-offset : (s : Settings) (m : List ℕ) → sound s m ≡ true → isOffset (s .offset) ≡ true
+sound-offset s m e = range s (sound-ranged s m e) .offset
 
 -- after any run that is not refused because its board is not sound
 module _ (s : Settings) (m o f : List ℕ) (n : run s m o f .answer .number ≡ 1 → ⊥) where
@@ -183,6 +188,10 @@ module _ (s : Settings) (m o f : List ℕ) (n : run s m o f .answer .number ≡ 
   -- request 7: the index is true, which ""$" keeps"
   pub run-index : isIndex (run s m o f .answer .settings .places) (filesOf (run s m o f .answer .settings .files) (run s m o f .memory)) ≡ true
   run-index = sound-index (run s m o f .answer .settings) (run s m o f .memory) left-sound
+
+  -- request 9: so that the call which adds the offset to a reading never answers 1 for it
+  pub run-offset : isOffset (run s m o f .answer .settings .offset) ≡ true
+  run-offset = sound-offset (run s m o f .answer .settings) (run s m o f .memory) left-sound
 
 -- and after any fresh board that was made
 pub fresh-unused : (t : ℕ) (m : List ℕ) → fresh t m .answer .number ≡ 0 →
@@ -210,6 +219,10 @@ run-wrong-index s m o f n = run-not s m o f (λ e. never (sym (sound-index s m e
 -- two files of one label, whatever the index
 pub run-twice : (s : Settings) (m o f : List ℕ) → distinct (labels (filesOf (s .files) m)) ≡ false → run s m o f ≡ untouched 1 s m o
 run-twice s m o f n = run-not s m o f (λ e. never (sym (sound-distinct s m e) ∙ n))
+
+-- request 9, "1 for an offset outside -9 to 9"
+pub run-wrong-offset : (s : Settings) (m o f : List ℕ) → isOffset (s .offset) ≡ false → run s m o f ≡ untouched 1 s m o
+run-wrong-offset s m o f n = run-not s m o f (λ e. never (sym (sound-offset s m e) ∙ n))
 
 -- of the boards that differ in nothing but the index, all but the sound one
 pub run-other-index : (s : Settings) (m o f : List ℕ) → sound s m ≡ true → length (s .places) ≡ ENTRIES →

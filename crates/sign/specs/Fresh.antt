@@ -3,6 +3,7 @@ use Prim.Native.Nat.{ℕ}
 use mathlib.Core.Bool.{not}
 use mathlib.Core.List.{List}
 use lib.ListN.{length, replicate}
+use lib.IntN.{pos}
 use Rattle.octets.specs.Choice.{if_then_else_}
 use Rattle.octets.specs.Buffer.{zeros}
 use Rattle.header.specs.Addressing.{isOwnType}
@@ -31,16 +32,16 @@ makes n s m = making (madeAs n s) m
 
 -- "settings from 10 or 11 all zero"
 abbrev pub allZero : Settings
-allZero = settings 0 0 0 0 0 0 0 0 0 0 0 (replicate ENTRIES 0)
+allZero = settings 0 0 0 0 0 0 0 0 0 0 0 (replicate ENTRIES 0) (pos 0)
 
 -- "memory untouched"
 abbrev pub unmade : ℕ → List ℕ → Making
 unmade n m = makes n allZero m
 
 -- "A fresh board has 00:00, 01 01 00, format S, speaker off, address 00, no files", and its own type; request 3: all of its memory,
--- so many bytes, is unused; request 7: no label has a record
+-- so many bytes, is unused; request 7: no label has a record; request 9: "Fresh boards hold 0."
 abbrev pub freshSettings : ℕ → ℕ → Settings
-freshSettings t n = settings 0 0 1 1 0 FORMAT-S OFF 0 t 0 n noEntries
+freshSettings t n = settings 0 0 1 1 0 FORMAT-S OFF 0 t 0 n noEntries (pos 0)
 
 -- a fresh board: "memory all zero"; "Fresh: 10, 11": 10 "wrong type", 11 "wrong memory length"
 unfoldable pub fresh : ℕ → List ℕ → Making

@@ -31,12 +31,13 @@ fn unmade(number: u8) -> Made
             files: 0,
             unused: 0,
             places: [0; 95],
+            offset: 0,
         },
     }
 }
 
 // "00:00, 01 01 00, format S, speaker off, address 00, no files"; request 3: all of memory is unused; request 7: no label has a
-// record.
+// record; request 9: "Fresh boards hold 0."
 fn made(own: u8, unused: u16) -> Made
     ensures { λ r. ⌜ r ≡ madeAs 0 (freshSettings own unused) ⌝ }
 {
@@ -55,6 +56,7 @@ fn made(own: u8, unused: u16) -> Made
             files: 0,
             unused,
             places: [NOWHERE; 95],
+            offset: 0,
         },
     }
 }

@@ -1,5 +1,5 @@
--- A signed number from its bits, and without its sign, as the code makes them.
-use Prim.Native.Nat.{ℕ, suc, _+_, _-_, _≤_, _<_}
+-- A signed number from its bits, in more bits, and without its sign, as the code makes them.
+use Prim.Native.Nat.{ℕ, suc, _+_, _-_, _^_, _≤_, _<_}
 use mathlib.Core.Path.{_≡_, refl, sym, ap, _∙_}
 use mathlib.Core.Bool.{true, false}
 use native.Mathlib.Omega.{arith}
@@ -8,23 +8,53 @@ use borrow.Author.Tests.{ltb-true, le-ltb}
 use lib.Dec.{T}
 use lib.IntN.{ℤ, pos, negsuc, negℤ, natAbs, _-ℤ_, +ℤ-comm}
 use lib.Signed.{mag, ltZ, nonNeg}
-use mir.Syntax.{w16, w32}
-use mir.Val.{Fits, SFits, toZ}
-use mir.Facts.{toZ-ofZ, toZ-pos}
+use mir.Syntax.{Width, w8, w16, w32}
+use mir.Val.{Fits, SFits, toZ, bits as wide, hbits}
+use mir.Facts.{toZ-ofZ, toZ-pos, toZ-neg}
 use Rattle.octets.proofs.Tests.{never}
-use Rattle.signed.proofs.Held.{held, less-one}
+use Rattle.signed.proofs.Held.{held, wider, widened, less-one}
 
--- ---- from its bits: -1 - k is -(k + 1)
+-- ---- from its bits: where n is k below the last that w bits hold, -1 - k is what n stands for
+
+module _ (w : Width) (n k : ℕ) (h : k < 2 ^ hbits w) (e : n ≡ 2 ^ wide w - suc k) where
+  lowered : negsuc 0 -ℤ toZ w k ≡ negsuc k
+  lowered = ap (λ (z : ℤ). negsuc 0 -ℤ z) (toZ-pos w {n = k} h) ∙ +ℤ-comm (negsuc 0) (negℤ (pos k)) ∙ less-one k
+
+  lowered-fits : SFits w (negsuc 0 -ℤ toZ w k)
+  lowered-fits = rw lowered record { sfits = h }
+
+  lowered-is : held w (negsuc 0 -ℤ toZ w k) ≡ toZ w n
+  lowered-is = toZ-ofZ lowered-fits ∙ lowered ∙ sym (ap (toZ w) e ∙ toZ-neg w k h)
 
 module _ (n : ℕ) (g : 32768 ≤ n) (h : n < 65536) where
-  lowered : negsuc 0 -ℤ toZ w16 (65535 - n) ≡ negsuc (65535 - n)
-  lowered = ap (λ (z : ℤ). negsuc 0 -ℤ z) (toZ-pos w16 {n = 65535 - n} (omega arith)) ∙ +ℤ-comm (negsuc 0) (negℤ (pos (65535 - n))) ∙ less-one (65535 - n)
-
   pub bits-fit : SFits w16 (negsuc 0 -ℤ toZ w16 (65535 - n))
-  bits-fit = rw lowered record { sfits = omega arith }
+  bits-fit = lowered-fits w16 n (65535 - n) (omega arith) (omega arith)
 
   pub bits-are : held w16 (negsuc 0 -ℤ toZ w16 (65535 - n)) ≡ toZ w16 n
-  bits-are = toZ-ofZ bits-fit ∙ lowered ∙ sym (simp (le-ltb n 32768 g) (ap negsuc (omega arith)))
+  bits-are = lowered-is w16 n (65535 - n) (omega arith) (omega arith)
+
+module _ (n : ℕ) (g : 128 ≤ n) (h : n < 256) where
+  pub byte-fits : SFits w8 (negsuc 0 -ℤ toZ w8 (255 - n))
+  byte-fits = lowered-fits w8 n (255 - n) (omega arith) (omega arith)
+
+  pub byte-is : held w8 (negsuc 0 -ℤ toZ w8 (255 - n)) ≡ toZ w8 n
+  byte-is = lowered-is w8 n (255 - n) (omega arith) (omega arith)
+
+-- ---- in more bits
+
+module _ (z : ℤ) (f : SFits w16 z) where
+  pub short-fits : SFits w32 (held w16 z)
+  short-fits = wider w16 w32 tt f
+
+  pub short-is : held w32 (held w16 z) ≡ z
+  short-is = widened w16 w32 tt f
+
+module _ (z : ℤ) (f : SFits w8 z) where
+  pub small-fits : SFits w32 (held w8 z)
+  small-fits = wider w8 w32 tt f
+
+  pub small-is : held w32 (held w8 z) ≡ z
+  small-is = widened w8 w32 tt f
 
 -- ---- without its sign
 
@@ -82,4 +112,4 @@ module _ (z : ℤ) (f : SFits w32 z) where
   pub size-pos : natAbs (held w32 z) ≡ natAbs z
   size-pos = ap natAbs (toZ-ofZ f)
 
-pub ruleset bits = (bits-fit, bits-are, flip-fits, flip-sign, flip-cast, flip-more, size-neg, pos-sign, pos-cast, size-pos, needs)
+pub ruleset bits = (bits-fit, bits-are, byte-fits, byte-is, short-fits, short-is, small-fits, small-is, flip-fits, flip-sign, flip-cast, flip-more, size-neg, pos-sign, pos-cast, size-pos, needs)

@@ -1,2 +1,3 @@
 -- Signed numbers.
+pub mod Between
 pub mod Floor

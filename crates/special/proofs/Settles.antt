@@ -1,11 +1,15 @@
 -- What the special functions that set make of data, test by test: another setting, or that the data are malformed.
-use Prim.Native.Nat.{ℕ, _-_}
+use Prim.Native.Nat.{ℕ, _-_, _<_}
 use mathlib.Core.Path.{_≡_, refl, sym, ap, _∙_}
 use mathlib.Core.List.{List, [], _∷_}
 use mathlib.Core.Bool.{Bool, true, false, not, _&&_, _||_}
 use native.Mathlib.Omega.{arith}
 use lib.ListN.{length, take, drop}
+use lib.IntN.{ℤ}
 use lib.Seq.{take-all}
+use lib.Signed.{mag}
+use mir.Syntax.{w8}
+use mir.Facts.{toZ-ofZ}
 use borrow.Author.Needs.{needs}
 use borrow.Author.Tests.{eq-eqb, ne-eqb, not-true, not-false}
 use Rattle.octets.specs.Choice.{_is_, _≤?_, _!_, all, same}
@@ -16,12 +20,15 @@ use Rattle.octets.specs.declared.hex.Two.{Two}
 use Rattle.octets.specs.declared.hex.Two.the-variants.{Value, Bad}
 use Rattle.octets.proofs.Tests.{and-none, and-some}
 use Rattle.octets.proofs.Told.{two-none, two-some}
-use Rattle.board.specs.Settings.{FORMAT-S, FORMAT-M, OFF, ON, inDate, withTime, withDate, withFormat, withSpeaker, withAddress}
+use Rattle.signed.proofs.Held.{held}
+use Rattle.temperature.proofs.Signs.{two-long, second-digit}
+use Rattle.temperature.specs.Offset.{isSignedDigit, signedDigit}
+use Rattle.board.specs.Settings.{FORMAT-S, FORMAT-M, OFF, ON, inDate, withTime, withDate, withFormat, withSpeaker, withAddress, withOffset}
 use Rattle.board.specs.declared.Settings.{Settings}
 use Rattle.effects.specs.Effects.{board}
 use Rattle.special.specs.Configuration.{configure}
-use Rattle.special.specs.Special.{TIME, SPEAKER, CONFIGURATION, FORMAT, ADDRESS, DATE}
-use Rattle.special.specs.Special.{Change, to, malformed, unknown, setTime, setSpeaker, setFormat, setDate, setAddress, setBy, change, writeSpecial}
+use Rattle.special.specs.Special.{TIME, SPEAKER, CONFIGURATION, FORMAT, ADDRESS, DATE, OFFSET}
+use Rattle.special.specs.Special.{Change, to, malformed, unknown, setTime, setSpeaker, setFormat, setDate, setAddress, setOffset, setBy, change, writeSpecial}
 use Rattle.effects.specs.Leaving.{doneAs, Acts}
 use Rattle.special.specs.Changing.{changed}
 use Rattle.effects.specs.declared.Done.{Done}
@@ -151,6 +158,33 @@ module _ (s : Settings) (d : List ℕ) where
 
 pub ruleset addressing = (answered, address-length, address-letters, address-right, needs)
 
+-- ---- the temperature offset
+
+module _ (s : Settings) (d : List ℕ) (b : Bool) (e : b ≡ isSignedDigit d) where
+  pub offset-other : not b ≡ true → malformed s ≡ setOffset s d
+  unfolding setOffset
+  offset-other h = rw (← e, not-true b h)
+
+  module _ (h : not b ≡ false) where
+    signed : isSignedDigit d ≡ true
+    signed = sym e ∙ not-false b h
+
+    pub offset-first : 0 < length d
+    offset-first = omega (arith, two-long d signed)
+
+    pub offset-second : 1 < length d
+    offset-second = omega (arith, two-long d signed)
+
+    pub offset-digit : isDecimal (d ! 1) ≡ true
+    offset-digit = second-digit d signed
+
+    pub offset-right : (z : ℤ) → mag z < 128 → z ≡ signedDigit (d ! 0) (d ! 1) → (r : Settings) → r ≡ withOffset s (held w8 z) →
+        to r ≡ setOffset s d
+    unfolding setOffset
+    offset-right z k p r g = rw (signed, ← p, g) (ap (λ (x : ℤ). to (withOffset s x)) (toZ-ofZ {w = w8} record { sfits = k }))
+
+pub ruleset offsetting = (answered, offset-other, offset-first, offset-second, offset-digit, offset-right, needs)
+
 -- ---- one of them, by its label
 
 module _ (s : Settings) (l : ℕ) (d : List ℕ) where
@@ -158,9 +192,10 @@ module _ (s : Settings) (l : ℕ) (d : List ℕ) where
   pub set-labelled : (k : ℕ) (r : Done) → l ≡ k → r ≡ changed (setBy s k d) → r ≡ changed (setBy s l d)
   set-labelled k r e h = rw e h
 
-  pub set-none : (l ≡ TIME → ⊥) → (l ≡ SPEAKER → ⊥) → (l ≡ FORMAT → ⊥) → (l ≡ ADDRESS → ⊥) → (l ≡ DATE → ⊥) → unknown s ≡ setBy s l d
+  pub set-none : (l ≡ TIME → ⊥) → (l ≡ SPEAKER → ⊥) → (l ≡ FORMAT → ⊥) → (l ≡ ADDRESS → ⊥) → (l ≡ DATE → ⊥) →
+      (l ≡ OFFSET → ⊥) → unknown s ≡ setBy s l d
   unfolding setBy
-  set-none a b c f e = rw (ne-eqb l TIME a, ne-eqb l SPEAKER b, ne-eqb l FORMAT c, ne-eqb l DATE e, ne-eqb l ADDRESS f)
+  set-none a b c f e g = rw (ne-eqb l TIME a, ne-eqb l SPEAKER b, ne-eqb l FORMAT c, ne-eqb l DATE e, ne-eqb l ADDRESS f, ne-eqb l OFFSET g)
 
 pub ruleset labelled = (answered, set-labelled, set-none, needs)
 

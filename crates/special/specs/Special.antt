@@ -8,7 +8,8 @@ use Rattle.octets.specs.Hex.{inHex4}
 use Rattle.octets.specs.Carried.{isCarried2, carried2}
 use Rattle.octets.specs.Decimal.{isDecimal, decimal2, inDecimal2}
 use Rattle.octets.specs.Bytes.{COMMA, ZERO, E, F}
-use Rattle.board.specs.Settings.{FORMAT-S, FORMAT-M, OFF, ON, inDate, withTime, withDate, withFormat, withSpeaker, withAddress}
+use Rattle.temperature.specs.Offset.{isSignedDigit, signedDigit}
+use Rattle.board.specs.Settings.{FORMAT-S, FORMAT-M, OFF, ON, inDate, withTime, withDate, withFormat, withSpeaker, withAddress, withOffset}
 use Rattle.board.specs.Files.{filesOf, heads}
 use Rattle.effects.specs.Reply.{replyOf}
 use Rattle.effects.specs.Effects.{Board, board, Effect, replied, refuse}
@@ -42,6 +43,10 @@ ADDRESS = 0x37
 -- ";"
 abbrev pub DATE : ℕ
 DATE = 0x3B
+
+-- "T"
+abbrev pub OFFSET : ℕ
+OFFSET = 0x54
 
 -- what a special function makes of the settings: its number, and the settings after it
 pub record Change : Type 0 where
@@ -88,6 +93,10 @@ setDate s d =
 unfoldable pub setAddress : Settings → List ℕ → Change
 setAddress s d = if length d is 2 && isCarried2 d then to (withAddress s (carried2 d)) else malformed s
 
+-- request 9, Set Temperature Offset: "a sign and one digit 0 to 9, so -9 to 9, on every type"
+unfoldable pub setOffset : Settings → List ℕ → Change
+setOffset s d = if isSignedDigit d then to (withOffset s (signedDigit (d ! 0) (d ! 1))) else malformed s
+
 -- a command to set the serial address, right or not
 abbrev pub setsAddress : ℕ → List ℕ → Bool
 setsAddress c d = c is E && d ! 0 is ADDRESS
@@ -100,6 +109,7 @@ setBy s label d =
     else if label is FORMAT then setFormat s d
     else if label is DATE then setDate s d
     else if label is ADDRESS then setAddress s d
+    else if label is OFFSET then setOffset s d
     else unknown s
 
 -- what the board is then: its memory stays

@@ -26,6 +26,8 @@ use octets::bytes::ZERO;
 use octets::hex::Two;
 use octets::hex::two_at;
 use octets::slices::same;
+use temperature::offset::is_signed_digit;
+use temperature::offset::signed_digit;
 ghost use mathlib.Core.Path.{_≡_};
 ghost use mathlib.Core.Bool.{true};
 ghost use Prim.Native.Nat.{_+_, _≤_};
@@ -37,7 +39,7 @@ ghost use Rattle.board.specs.Settings.{ON, inRange};
 ghost use Rattle.board.specs.Files.{filesOf, heads};
 ghost use Rattle.board.specs.Soundness.{holdsFiles, sound};
 ghost use Rattle.effects.specs.Effects.{board};
-ghost use Rattle.special.specs.Special.{setTime, setSpeaker, setFormat, setDate, setAddress, setBy, writeSpecial, tellTime, tellDate, tellSpeaker, tellPool, isTold, tell, readSpecial};
+ghost use Rattle.special.specs.Special.{setTime, setSpeaker, setFormat, setDate, setAddress, setOffset, setBy, writeSpecial, tellTime, tellDate, tellSpeaker, tellPool, isTold, tell, readSpecial};
 ghost use Rattle.special.specs.Changing.{changed};
 ghost use Rattle.effects.specs.Leaving.{Told, Acts, Tells, Ready};
 
@@ -55,6 +57,8 @@ const FORMAT: u8 = 0x27;
 const ADDRESS: u8 = 0x37;
 
 const DATE: u8 = 0x3B;
+
+const OFFSET: u8 = 0x54;
 
 // "four digits HhMm, 00:00 to 23:59"
 fn set_time(s: Settings, d: &[u8]) -> Done
@@ -135,6 +139,17 @@ fn set_address(s: Settings, d: &[u8]) -> Done
     }
 }
 
+// Set Temperature Offset: "a sign and one digit 0 to 9".
+fn set_offset(s: Settings, d: &[u8]) -> Done
+    ensures { λ r. ⌜ r ≡ changed (setOffset s (now (d .entry))) ⌝ }
+{
+    if !is_signed_digit(d) {
+        return quiet(s, MALFORMED);
+    }
+    let offset = signed_digit(d[0], d[1]);
+    quiet(s.with_offset(offset), 0)
+}
+
 // E, but for "$": the settings alone change.
 fn set_by(s: Settings, label: u8, d: &[u8]) -> Done
     ensures { λ r. ⌜ r ≡ changed (setBy s label (now (d .entry))) ⌝ }
@@ -145,6 +160,7 @@ fn set_by(s: Settings, label: u8, d: &[u8]) -> Done
         FORMAT => set_format(s, d),
         DATE => set_date(s, d),
         ADDRESS => set_address(s, d),
+        OFFSET => set_offset(s, d),
         _ => quiet(s, UNKNOWN),
     }
 }

@@ -258,7 +258,10 @@ fn same_settings(a: Settings, b: Settings) -> bool {
         b.own,
         b.files,
     ];
-    same(&x, &y) && a.unused == b.unused && same_places(&a.places, &b.places)
+    same(&x, &y)
+        && a.unused == b.unused
+        && same_places(&a.places, &b.places)
+        && a.offset == b.offset
 }
 
 // A content without its zeros.

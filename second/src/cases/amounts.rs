@@ -23,9 +23,14 @@ pub fn wrong(dice: &mut Dice, settings: Settings, memory_length: usize) -> Setti
 /// one without files memory's length.
 fn near(dice: &mut Dice, right: u16, memory_length: usize) -> u16 {
     let whole = amount(memory_length);
+    let deck = if right == whole {
+        "amount without files"
+    } else {
+        "amount"
+    };
     let any = amount(dice.between(0, usize::from(u16::MAX)));
     let within = amount(dice.between(0, memory_length));
-    dice.one_of([
+    let choices = [
         right.wrapping_add(1),
         right.wrapping_sub(1),
         right.wrapping_add(RECORD),
@@ -34,7 +39,8 @@ fn near(dice: &mut Dice, right: u16, memory_length: usize) -> u16 {
         whole,
         any,
         within,
-    ])
+    ];
+    dice.turn_of(deck, choices)
 }
 
 /// A number of bytes as the settings have it.

@@ -4,9 +4,10 @@
 use super::boards::{self, make_text, message, new_label, size_of};
 use super::dates;
 use super::dice::Dice;
+use super::temperatures;
 use crate::bytes::{
     CONFIGURATION, DATE, LOWEST_DATA, POOL, READ_SPECIAL, READ_STRING, READ_TEXT, SERIAL_ADDRESS,
-    SPEAKER, TIME, TIME_FORMAT, WRITE_SPECIAL, WRITE_STRING, WRITE_TEXT,
+    SPEAKER, TEMPERATURE_OFFSET, TIME, TIME_FORMAT, WRITE_SPECIAL, WRITE_STRING, WRITE_TEXT,
 };
 use crate::files::MOST_FILES;
 use crate::hex::byte_digits;
@@ -59,6 +60,9 @@ impl Plan {
 /// stay below 8,192 bytes.
 const LONG_MESSAGE: usize = 2_000;
 
+/// The functions that can be read, "#" twice, since it tells the unused amount.
+const READ_LABELS: [u8; 7] = [TIME, SPEAKER, TIME_FORMAT, DATE, CONFIGURATION, POOL, POOL];
+
 /// What is known of a board while blocks are planned for it.
 pub struct Sight {
     pub records: Vec<Record>,
@@ -86,6 +90,8 @@ pub fn for_board(dice: &mut Dice, sight: &mut Sight, count: usize) -> Vec<Plan> 
             refused(dice, sight, is_last)
         } else if is_last && dice.chance(18) {
             no_file(dice, sight, is_last)
+        } else if is_last && dice.chance(2) {
+            offset_read(dice)
         } else {
             done(dice, sight, is_last, place == 1)
         };
@@ -93,6 +99,15 @@ pub fn for_board(dice: &mut Dice, sight: &mut Sight, count: usize) -> Vec<Plan> 
     }
     give_ends(dice, &mut plans);
     plans
+}
+
+/// 21: the source's Read Temperature Offset, which is not asked for.
+fn offset_read(dice: &mut Dice) -> Plan {
+    let mut data = vec![TEMPERATURE_OFFSET];
+    if dice.chance(30) {
+        data.extend(temperatures::good_text(dice));
+    }
+    Plan::new(READ_SPECIAL, data)
 }
 
 /// A message to each file in memory's order: on a full board 64 blocks, each
@@ -134,13 +149,14 @@ fn done(dice: &mut Dice, sight: &mut Sight, is_last: bool, is_first: bool) -> Pl
     if is_last && dice.chance(if sight.is_crowded() { 90 } else { 60 }) {
         return read(dice, sight);
     }
-    match dice.below(20) {
+    match dice.below(21) {
         0..=10 => write(dice, sight),
         11 | 12 => special(TIME, &decimal(dice, &[(0, 23), (0, 59)])),
         13 => special(SPEAKER, &dice.one_of([*b"00", *b"FF"])),
         14 => special(TIME_FORMAT, &dice.one_of([*b"S", *b"M"])),
         15 | 16 => special(DATE, &dates::real(dice).text()),
         17 => special(SERIAL_ADDRESS, &byte_digits(dice.byte(0, 255))),
+        18 => special(TEMPERATURE_OFFSET, &temperatures::good_text(dice)),
         _ => configuration(dice, sight),
     }
 }
@@ -208,7 +224,7 @@ fn read_code(kind: Kind) -> u8 {
 fn any_record(dice: &mut Dice, sight: &Sight) -> Option<Record> {
     let count = sight.records.len();
     let any = dice.below(count);
-    let place = if sight.is_crowded() && dice.chance(50) {
+    let place = if sight.is_crowded() && dice.chance(65) {
         dice.one_of([0, count - 1])
     } else {
         any
@@ -221,7 +237,7 @@ fn read(dice: &mut Dice, sight: &Sight) -> Plan {
     match any_record(dice, sight) {
         Some(record) if dice.chance(60) => Plan::new(read_code(record.kind), vec![record.label]),
         _ => {
-            let label = dice.one_of([TIME, SPEAKER, TIME_FORMAT, DATE, CONFIGURATION, POOL]);
+            let label = dice.turn_of("read", READ_LABELS);
             Plan::new(READ_SPECIAL, vec![label])
         }
     }
@@ -263,10 +279,13 @@ fn list_of(records: &[Record]) -> Vec<u8> {
 
 /// A block that the board refuses, for one of the eight reasons. A date that
 /// does not exist comes more often than its share of them, so that the end of
-/// every month is met.
+/// every month is met, and so does a temperature offset that is none.
 fn refused(dice: &mut Dice, sight: &mut Sight, is_last: bool) -> Plan {
     if dice.chance(18) {
         return special(DATE, &dates::wrong(dice).text());
+    }
+    if dice.chance(8) {
+        return special(TEMPERATURE_OFFSET, &temperatures::wrong_text(dice));
     }
     match dice.between(20, 27) {
         20 => wrong_sum(dice, sight, is_last),
@@ -282,11 +301,12 @@ fn refused(dice: &mut Dice, sight: &mut Sight, is_last: bool) -> Plan {
 
 /// 20, over a block that would be done or refused.
 fn wrong_sum(dice: &mut Dice, sight: &Sight, is_last: bool) -> Plan {
-    let mut plan = match dice.below(6) {
+    let mut plan = match dice.below(7) {
         0 => unknown(dice, is_last),
         1 => malformed(dice, sight, is_last),
         2 if is_last => read(dice, sight),
         3 => special(TIME_FORMAT, b"M"),
+        4 => special(TEMPERATURE_OFFSET, &temperatures::good_text(dice)),
         _ => write(dice, sight),
     };
     plan.add_wrong_sum(dice);
@@ -298,14 +318,22 @@ fn unknown(dice: &mut Dice, is_last: bool) -> Plan {
     let length = dice.below(6);
     let rest = message(dice, length);
     if is_last && dice.chance(50) {
-        let label = dice.one_of([b'&', b'7', b'"', b'%', b'A', LOWEST_DATA]);
+        let label = dice.one_of([
+            b'&',
+            b'7',
+            b'"',
+            b'%',
+            b'A',
+            LOWEST_DATA,
+            TEMPERATURE_OFFSET,
+        ]);
         let mut data = vec![label];
         data.extend(rest);
         let command = dice.one_of([READ_SPECIAL, READ_SPECIAL, b'J', b'N']);
         return Plan::new(command, data);
     }
     if dice.chance(50) {
-        let label = dice.one_of([b'#', b'&', b'2', b'5', b'8', b'"', LOWEST_DATA, 0xFF]);
+        let label = dice.one_of([b'#', b'&', b'2', b'5', b'8', b'"', b't', LOWEST_DATA, 0xFF]);
         let mut data = vec![label];
         data.extend(rest);
         return Plan::new(WRITE_SPECIAL, data);
@@ -336,7 +364,7 @@ fn malformed(dice: &mut Dice, sight: &Sight, is_last: bool) -> Plan {
         }
         return plan;
     }
-    match dice.below(7) {
+    match dice.below(8) {
         0 => Plan::new(
             dice.one_of([WRITE_TEXT, WRITE_STRING, WRITE_SPECIAL]),
             Vec::new(),
@@ -375,6 +403,7 @@ fn malformed(dice: &mut Dice, sight: &Sight, is_last: bool) -> Plan {
                 b"01010A",
             ]),
         ),
+        5 => special(TEMPERATURE_OFFSET, &temperatures::wrong_text(dice)),
         _ => special(
             SERIAL_ADDRESS,
             dice.one_of([b"1".as_slice(), b"100", b"1g", b"1G", b"a1", b"?0", b""]),
@@ -384,25 +413,29 @@ fn malformed(dice: &mut Dice, sight: &Sight, is_last: bool) -> Plan {
 
 /// 23: a message to a file that is not there, or a read of it.
 fn no_file(dice: &mut Dice, sight: &Sight, is_last: bool) -> Plan {
-    let (kind, label) = file_of_none(dice, sight);
     if is_last && dice.chance(70) {
+        let (kind, label) = file_of_none(dice, sight, "no file to read");
         return Plan::new(read_code(kind), vec![label]);
     }
+    let (kind, label) = file_of_none(dice, sight, "no file to write");
     let length = dice.below(12);
     to_file(dice, kind, label, length)
 }
 
 /// A type and a label that no file has together: the label of a file of the
 /// other type, of a file that a list took away, of none, or a byte that is no
-/// label.
-fn file_of_none(dice: &mut Dice, sight: &Sight) -> (Kind, u8) {
-    let any_kind = dice.one_of([Kind::Text, Kind::String]);
+/// label. Each way with either type comes in its turn, dealt from the deck of this
+/// name.
+fn file_of_none(dice: &mut Dice, sight: &Sight, deck: &'static str) -> (Kind, u8) {
+    let card = dice.dealt(deck, &[1; 24]);
+    let any_kind = [Kind::Text, Kind::String][card % 2];
     let free = new_label(dice, &sight.records);
     let is_here = |gone: &Record| sight.records.iter().any(|here| here.label == gone.label);
-    let of_file = match dice.below(12) {
+    let of_file = match card / 2 {
         0 | 1 => any_record(dice, sight).map(|here| (here.kind.other(), here.label)),
         2..=5 => one_where(dice, &sight.former, |gone| !is_here(gone)),
-        6 | 7 => Some((any_kind, dice.one_of([b'0', b'?']))),
+        6 => Some((any_kind, b'0')),
+        7 => Some((any_kind, b'?')),
         8 | 9 => Some((any_kind, below_labels(dice))),
         10 => Some((any_kind, above_labels(dice, sight))),
         _ => None,

@@ -5,6 +5,7 @@ use super::amounts;
 use super::dates;
 use super::dice::Dice;
 use super::indices;
+use super::temperatures;
 use crate::bytes::NUL;
 use crate::files::{walk, File, MOST_FILES};
 use crate::header::is_own_type;
@@ -32,9 +33,10 @@ const SMALL_MEMORY: usize = 600;
 
 /// A sound board: most times a few files in a small memory.
 pub fn sound(dice: &mut Dice) -> Board {
-    let (length, records) = match dice.below(100) {
-        0..=19 => crowded(dice),
-        20 | 21 => (dice.one_of([LEAST_MEMORY, MOST_MEMORY]), Vec::new()),
+    let (length, records) = match dice.dealt("board", &[20, 1, 1, 78]) {
+        0 => crowded(dice),
+        1 => (LEAST_MEMORY, Vec::new()),
+        2 => (MOST_MEMORY, Vec::new()),
         _ => {
             let length = memory_length(dice);
             (length, records(dice, length))
@@ -94,15 +96,15 @@ pub fn put_right(board: &mut Board) {
 fn crowded(dice: &mut Dice) -> (usize, Vec<Record>) {
     let count = crowd(dice);
     let least = count * SMALLEST_FILE;
-    let length = match dice.below(20) {
-        0 | 1 => MOST_MEMORY,
-        2 => dice.between(least, MOST_MEMORY),
-        3..=5 => dice.between(least, 4_000),
-        6..=10 => least,
+    let length = match dice.dealt("memory of a crowd", &[2, 1, 3, 5, 9]) {
+        0 => MOST_MEMORY,
+        1 => dice.between(least, MOST_MEMORY),
+        2 => dice.between(least, 4_000),
+        3 => least,
         _ => dice.between(least, 2 * least),
     };
     let mut records = many_records(dice, length, count);
-    if dice.chance(45) {
+    if dice.chance(35) {
         take_rest(dice, &mut records, length);
     }
     (length, records)
@@ -142,11 +144,11 @@ pub fn used(records: &[Record]) -> usize {
 
 /// Mostly 64 to 600 bytes, now and then up to 32,768.
 pub fn memory_length(dice: &mut Dice) -> usize {
-    match dice.below(200) {
-        0..=7 => LEAST_MEMORY,
-        8..=15 => dice.between(SMALL_MEMORY + 1, 4_000),
-        16 => dice.between(4_001, MOST_MEMORY),
-        17 => MOST_MEMORY,
+    match dice.dealt("memory", &[8, 8, 1, 1, 182]) {
+        0 => LEAST_MEMORY,
+        1 => dice.between(SMALL_MEMORY + 1, 4_000),
+        2 => dice.between(4_001, MOST_MEMORY),
+        3 => MOST_MEMORY,
         _ => dice.between(LEAST_MEMORY, SMALL_MEMORY),
     }
 }
@@ -161,6 +163,7 @@ fn settings(dice: &mut Dice, files: u8) -> Settings {
         address: address(dice),
         own_type: own_type(dice),
         files,
+        offset: temperatures::good_offset(dice),
         ..Settings::default()
     })
 }
@@ -251,7 +254,8 @@ pub fn size_of(length: usize) -> u16 {
 
 /// A record with a new label and at most so much content.
 fn record(dice: &mut Dice, others: &[Record], most: usize) -> Record {
-    let kind = dice.one_of([Kind::Text, Kind::Text, Kind::String]);
+    let (text, string) = (Kind::Text, Kind::String);
+    let kind = dice.one_of([text, text, text, string, string]);
     let most = match kind {
         Kind::Text => most.min(dice.one_of([8, 20, 60, 200, most])),
         Kind::String => most.min(dice.one_of([8, 20, usize::from(LONGEST_STRING)])),
@@ -314,12 +318,14 @@ pub fn message(dice: &mut Dice, length: usize) -> Vec<u8> {
     }
 }
 
-/// Damages a board in one place: its unused amount, its index, or something else
-/// and these two are right for that. Now and then it stays sound.
+/// Damages a board in one place: its unused amount, its index, its offset, or
+/// something else, and amount and index are right for that. Now and then it stays
+/// sound.
 pub fn damage(dice: &mut Dice, board: &mut Board) {
     match dice.below(100) {
         0..=7 => board.settings = amounts::wrong(dice, board.settings, board.memory.len()),
         8..=15 => indices::make_wrong(dice, board),
+        16..=19 => board.settings.offset = temperatures::wrong_offset(dice),
         _ => {
             damage_elsewhere(dice, board);
             put_right(board);
@@ -421,12 +427,12 @@ fn damage_length(dice: &mut Dice, board: &mut Board) {
 /// The board lies just beyond one of its ends and would be sound but for that:
 /// memory of 63 or of 32,769 bytes, or 65 files.
 fn go_beyond(dice: &mut Dice, board: &mut Board) {
-    let (length, records) = match dice.below(8) {
-        0..=2 => {
+    let (length, records) = match dice.dealt("beyond", &[3, 1, 4]) {
+        0 => {
             let length = LEAST_MEMORY - 1;
             (length, records(dice, length))
         }
-        3 => (MOST_MEMORY + 1, records(dice, MOST_MEMORY)),
+        1 => (MOST_MEMORY + 1, records(dice, MOST_MEMORY)),
         _ => {
             let count = MOST_FILES + 1;
             let length = count * SMALLEST_FILE + dice.one_of([0, 1, 100]);

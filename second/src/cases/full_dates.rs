@@ -30,13 +30,13 @@ pub fn last_day(year: u16, month: u8) -> u8 {
     month_length(year, month).unwrap_or_default()
 }
 
-/// A day from the 28th on, which exists.
-pub fn late(dice: &mut Dice) -> Date {
-    let date = real(dice);
-    let last = last_day(date.year, date.month);
-    Date {
-        day: dice.byte(COMMON_DAYS, last),
-        ..date
+/// A date on this day, which January has and not every month.
+pub fn on_day(dice: &mut Dice, day: u8) -> Date {
+    let date = Date { day, ..real(dice) };
+    if date.exists() {
+        date
+    } else {
+        Date { month: 1, ..date }
     }
 }
 
@@ -50,20 +50,21 @@ pub fn leap_day(dice: &mut Dice) -> Date {
 }
 
 /// A date that does not exist: its year, its month or its day is wrong, and now
-/// and then all three. Each way not to exist is about as frequent.
-pub fn wrong(dice: &mut Dice) -> Date {
+/// and then all three. Each way not to exist comes in its turn, dealt from the
+/// deck of this name.
+pub fn wrong(dice: &mut Dice, deck: &'static str) -> Date {
     let date = real(dice);
     let last = last_day(date.year, date.month);
-    match dice.below(17) {
-        0..=4 => Date {
-            year: wrong_year(dice),
+    match dice.dealt(deck, &[1; 17]) {
+        place @ 0..=4 => Date {
+            year: wrong_years(dice)[place],
             ..date
         },
-        5..=8 => Date {
-            month: wrong_month(dice),
+        place @ 5..=8 => Date {
+            month: wrong_months(dice)[place - 5],
             ..date
         },
-        9..=12 => day_after_the_last(dice),
+        place @ 9..=12 => day_after_the_last(dice, place - 9),
         13 => Date { day: 0, ..date },
         14 => Date {
             day: u8::MAX,
@@ -74,16 +75,16 @@ pub fn wrong(dice: &mut Dice) -> Date {
             ..date
         },
         _ => Date {
-            year: wrong_year(dice),
-            month: wrong_month(dice),
+            year: wrong_years(dice)[dice.below(5)],
+            month: wrong_months(dice)[dice.below(4)],
             day: dice.one_of([0, last + 1, u8::MAX]),
         },
     }
 }
 
-/// The day after the last of a month, for each length of a month as often.
-fn day_after_the_last(dice: &mut Dice) -> Date {
-    let (year, month) = match dice.below(4) {
+/// The day after the last of a month, by the four lengths of a month.
+fn day_after_the_last(dice: &mut Dice, length: usize) -> Date {
+    let (year, month) = match length {
         0 => (common_year(dice), FEBRUARY),
         1 => (leap_year(dice), FEBRUARY),
         2 => (year(dice), dice.one_of([4, 6, 9, 11])),
@@ -120,17 +121,17 @@ fn month(dice: &mut Dice) -> u8 {
     dice.one_of([1, FEBRUARY, FEBRUARY, 12, any, any, any, any])
 }
 
-/// A year before 2000 or after 2099: the nearest ones, those at either end of
-/// what two bytes hold, or any.
-fn wrong_year(dice: &mut Dice) -> u16 {
+/// Years before 2000 and after 2099: the nearest ones, those at either end of
+/// what two bytes hold, and any.
+fn wrong_years(dice: &mut Dice) -> [u16; 5] {
     let before = dice.below(usize::from(FIRST_YEAR)) as u16;
     let after = dice.between(usize::from(LAST_YEAR) + 1, usize::from(u16::MAX)) as u16;
     let any = dice.one_of([before, after]);
-    dice.one_of([0, FIRST_YEAR - 1, LAST_YEAR + 1, u16::MAX, any])
+    [0, FIRST_YEAR - 1, LAST_YEAR + 1, u16::MAX, any]
 }
 
-/// A month that is none.
-fn wrong_month(dice: &mut Dice) -> u8 {
+/// Months that are none.
+fn wrong_months(dice: &mut Dice) -> [u8; 4] {
     let any = dice.byte(13, u8::MAX);
-    dice.one_of([0, 13, u8::MAX, any])
+    [0, 13, u8::MAX, any]
 }

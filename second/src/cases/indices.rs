@@ -22,7 +22,7 @@ pub fn make_wrong(dice: &mut Dice, board: &mut Board) {
 /// An index that is wrong on most boards.
 fn near(dice: &mut Dice, board: &Board) -> Index {
     let right = board.settings.index;
-    match (dice.below(11), any_file(dice, board)) {
+    match (dice.dealt("index", &[1; 11]), any_file(dice, board)) {
         (0..=4, Some(file)) => {
             let entry = beside(dice, board, &file);
             right.with(file.record.label, entry)
@@ -37,7 +37,7 @@ fn beside(dice: &mut Dice, board: &Board, file: &File) -> u16 {
     let right = entry(file.place);
     let another = place_of_any(dice, board).unwrap_or(NO_PLACE);
     let edge = edge(dice, board);
-    dice.one_of([
+    let choices = [
         right.wrapping_add(1),
         right.wrapping_sub(1),
         right.wrapping_add(entry(RECORD_LENGTH)),
@@ -46,16 +46,21 @@ fn beside(dice: &mut Dice, board: &Board, file: &File) -> u16 {
         another,
         another,
         NO_PLACE,
+        entry(board.memory.len()),
         edge,
         edge,
-    ])
+    ];
+    dice.turn_of("beside", choices)
 }
 
 /// An entry for a label that no file has.
 fn stray(dice: &mut Dice, board: &Board) -> u16 {
     let of_a_file = place_of_any(dice, board).unwrap_or(0);
     let edge = edge(dice, board);
-    dice.one_of([of_a_file, 0, edge, edge])
+    dice.turn_of(
+        deck_of(board, ["stray", "stray without files"]),
+        [of_a_file, 0, edge, edge],
+    )
 }
 
 /// A place at an end: the first byte behind the last file, the last byte of
@@ -64,16 +69,28 @@ fn stray(dice: &mut Dice, board: &Board) -> u16 {
 fn edge(dice: &mut Dice, board: &Board) -> u16 {
     let end = entry(board.memory.len());
     let any = entry(dice.between(0, usize::from(NO_PLACE)));
-    dice.one_of([
-        end - board.settings.unused,
-        end - board.settings.unused,
+    let behind = end - board.settings.unused;
+    let choices = [
+        behind,
+        behind,
         end - 1,
         end,
         end,
         end + 1,
         NO_PLACE - 1,
         any,
-    ])
+    ];
+    dice.turn_of(deck_of(board, ["edge", "edge without files"]), choices)
+}
+
+/// The first of two decks for a board with files, the other for one without, so
+/// that either sort of board meets every card.
+fn deck_of(board: &Board, [with, without]: [&'static str; 2]) -> &'static str {
+    if board.settings.files > 0 {
+        with
+    } else {
+        without
+    }
 }
 
 /// A label of no file, "0" and "?" often, and often the next one to a file's.
@@ -86,7 +103,9 @@ fn free_label(dice: &mut Dice, board: &Board) -> u8 {
         Some(file) => file.record.label.saturating_add(1),
         None => any,
     };
-    let label = dice.one_of([b'0', b'?', FIRST_LABEL, LAST_LABEL, beside, any, any]);
+    let deck = deck_of(board, ["free label", "free label without files"]);
+    let choices = [b'0', b'?', FIRST_LABEL, LAST_LABEL, beside, any, any];
+    let label = dice.turn_of(deck, choices);
     if free.contains(&label) {
         label
     } else {
@@ -97,8 +116,11 @@ fn free_label(dice: &mut Dice, board: &Board) -> u8 {
 /// An index in which every entry is wrong that a file needs, or many are: all
 /// zero, as a fresh board has it, every entry at the next label, the files in
 /// the other order, or that of a board on which this one's files take other
-/// SIZEs.
+/// SIZEs. Without files all zero is the only one of these that is wrong.
 fn as_a_whole(dice: &mut Dice, board: &Board) -> Index {
+    if board.settings.files == 0 {
+        return Index::default();
+    }
     let right = board.settings.index;
     let mut shifted = right;
     if dice.chance(50) {
@@ -117,14 +139,8 @@ fn as_a_whole(dice: &mut Dice, board: &Board) -> Index {
     let moved = files.iter().skip(1).fold(right, |index, file| {
         index.with(file.record.label, entry(file.place) + by)
     });
-    dice.one_of([
-        Index::default(),
-        Index::default(),
-        Index::empty(),
-        shifted,
-        turned,
-        moved,
-    ])
+    let (zero, none) = (Index::default(), Index::empty());
+    dice.turn_of("whole index", [zero, zero, none, shifted, turned, moved])
 }
 
 /// Two files of one label, of whichever types; all other entries are right. The
@@ -142,13 +158,16 @@ fn make_twins(dice: &mut Dice, board: &mut Board) {
         entry(other.content.end),
     ]);
     let choices = [entry(one.place), entry(other.place), neither, NO_PLACE];
-    board.settings.index = board.settings.index.with(label, dice.one_of(choices));
+    board.settings.index = board
+        .settings
+        .index
+        .with(label, dice.turn_of("twins", choices));
 }
 
-/// Two files, the earlier one first: of one type or of two in about equal parts
-/// where the files have both.
+/// Two files, the earlier one first: of one type or of two, which not all boards
+/// have, in about equal parts.
 fn two_of<'a>(dice: &mut Dice, files: &'a [File]) -> (&'a File, &'a File) {
-    let is_of_one_type = dice.chance(50);
+    let is_of_one_type = dice.chance(40);
     let mut pair = any_two(dice, files);
     for _ in 0..8 {
         let (one, other) = pair;

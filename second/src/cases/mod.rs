@@ -9,8 +9,10 @@ pub mod frames;
 pub mod full_dates;
 pub mod indices;
 pub mod reckoning;
+pub mod temperatures;
 
 use std::io::{self, Write};
+use std::iter;
 
 use self::blocks::{Plan, Sight};
 use self::dice::Dice;
@@ -21,12 +23,15 @@ use crate::run::REPLY_MARGIN;
 use crate::soundness::{LEAST_MEMORY, MOST_MEMORY};
 use crate::stream::{
     Answer, Case, CALLS, DAYS_CALL, FRESH_CALL, JOIN_CALL, REFORM_CALL, RENEWAL_CALL, RUN_CALL,
-    WEEKDAY_CALL, WRITE_CALL,
+    TEMPERATURE_CALL, WEEKDAY_CALL, WRITE_CALL,
 };
 use crate::translation::{MOST_PRINTABLE, MOST_TRANSLATED};
 
-/// How often each call is made, in the order of [`CALLS`].
-const WEIGHTS: [usize; CALLS.len()] = [17, 136, 30, 42, 41, 39, 15, 20];
+/// How often each call is made in 720 cases, in the order of [`CALLS`].
+const WEIGHTS: [usize; CALLS.len()] = [34, 288, 60, 85, 83, 78, 30, 37, 25];
+
+/// How often each sort of run is made in 160 runs, in the order of [`run_case`].
+const RUNS: [usize; 6] = [90, 16, 10, 18, 4, 22];
 
 /// Writes so many cases, of these calls only.
 pub fn write_cases(
@@ -55,25 +60,18 @@ pub fn any_case(dice: &mut Dice, calls: &[u8]) -> Option<Case> {
         RENEWAL_CALL => Some(reckoning::renewal_case(dice)),
         WEEKDAY_CALL => Some(reckoning::weekday_case(dice)),
         DAYS_CALL => Some(reckoning::days_case(dice)),
+        TEMPERATURE_CALL => Some(temperatures::temperature_case(dice)),
         _ => None,
     }
 }
 
+/// The next of these calls, the others being passed over.
 fn any_call(dice: &mut Dice, calls: &[u8]) -> Option<u8> {
-    let choices: Vec<(u8, usize)> = CALLS
-        .into_iter()
-        .zip(WEIGHTS)
-        .filter(|(call, _)| calls.contains(call))
-        .collect();
-    let whole = choices.iter().map(|(_, weight)| weight).sum();
-    let mut left = dice.below(whole);
-    for (call, weight) in choices {
-        if left < weight {
-            return Some(call);
-        }
-        left -= weight;
+    let is_wanted = |call: &u8| calls.contains(call);
+    if !CALLS.iter().any(is_wanted) {
+        return None;
     }
-    None
+    iter::repeat_with(|| CALLS[dice.dealt("call", &WEIGHTS)]).find(is_wanted)
 }
 
 /// Any type, good most times, and memory of any length.
@@ -101,11 +99,12 @@ fn fresh_case(dice: &mut Dice) -> Case {
 
 /// A run: most times on a sound board that the frame reaches.
 fn run_case(dice: &mut Dice) -> Case {
-    match dice.below(156) {
-        0..=84 => good_run(dice),
-        85..=102 => wrong_date_run(dice),
-        103..=113 => wrong_amount_run(dice),
-        114..=131 => wrong_index_run(dice),
+    match dice.dealt("run", &RUNS) {
+        0 => good_run(dice),
+        1 => wrong_date_run(dice),
+        2 => wrong_amount_run(dice),
+        3 => wrong_index_run(dice),
+        4 => wrong_offset_run(dice),
         _ => any_run(dice),
     }
 }
@@ -114,7 +113,7 @@ fn run_case(dice: &mut Dice) -> Case {
 /// wrong.
 fn any_run(dice: &mut Dice) -> Case {
     let mut board = boards::sound(dice);
-    let count = match dice.below(20) {
+    let count = match dice.dealt("blocks of any run", &[2, 1, 17]) {
         0 => MOST_BLOCKS + 1,
         1 => MOST_BLOCKS,
         _ => dice.between(1, 4),
@@ -126,7 +125,7 @@ fn any_run(dice: &mut Dice) -> Case {
     let short_by = match dice.below(10) {
         0 => 1,
         1 => dice.between(1, REPLY_MARGIN),
-        2..=6 if board.memory.len() == MOST_MEMORY => 1,
+        2..=8 if board.memory.len() == MOST_MEMORY => 1,
         _ => 0,
     };
     if dice.chance(15) {
@@ -184,6 +183,14 @@ fn wrong_index_run(dice: &mut Dice) -> Case {
         _ => boards::small_or_empty(dice),
     };
     indices::make_wrong(dice, &mut board);
+    let count = dice.between(1, 4);
+    run_on(dice, board, count)
+}
+
+/// A run that would be good, on a board whose temperature offset is wrong.
+fn wrong_offset_run(dice: &mut Dice) -> Case {
+    let mut board = boards::small_or_empty(dice);
+    board.settings.offset = temperatures::wrong_offset(dice);
     let count = dice.between(1, 4);
     run_on(dice, board, count)
 }

@@ -2,9 +2,12 @@
 //! weekday and the days between two dates.
 
 use super::dice::Dice;
-use super::full_dates::{common_year, in_month, last_day, late, leap_day, leap_year, real, wrong};
+use super::full_dates::{
+    common_year, in_month, last_day, leap_day, leap_year, on_day, real, wrong,
+};
 use crate::dates::{Date, FIRST_YEAR, LAST_YEAR};
 use crate::stream::Case;
+use crate::weekday::weekday;
 
 /// The months from January 2000 to December 2099, numbered from 0.
 const FIRST_MONTH: i16 = 0;
@@ -37,6 +40,14 @@ const CHOSEN_COUNTS: [i16; 17] = [
 const OFF_AN_END: [i16; 6] = [-13, -12, -11, -1, 0, 1];
 /// No result is meant to be further off an end than this.
 const FURTHEST: usize = 14;
+/// How often a date is drawn again that is not on the weekday in turn.
+const MOST_TRIES: usize = 60;
+
+/// How often each sort of renewal is made in 100, in the order of
+/// [`renewal_case`].
+const RENEWALS: [usize; 9] = [14, 16, 3, 11, 14, 11, 14, 8, 9];
+/// How often each sort of two dates is taken in 20, in the order of [`days_case`].
+const PAIRS: [usize; 8] = [2, 2, 3, 2, 1, 3, 1, 6];
 
 const FIRST_DAY: Date = Date {
     year: FIRST_YEAR,
@@ -51,15 +62,15 @@ const LAST_DAY: Date = Date {
 
 /// A renewal: most times from a date that exists, about half of them to a date.
 pub fn renewal_case(dice: &mut Dice) -> Case {
-    match dice.below(100) {
-        0..=13 => wrong_date_renewal(dice),
-        14..=27 => chosen_count_renewal(dice),
-        28..=31 => any_count_renewal(dice),
-        32..=42 => longest_renewal(dice),
-        43..=56 => renewal_near_an_end(dice),
-        57..=66 => renewal_over_an_end(dice),
-        67..=80 => renewal_to_february(dice),
-        81..=88 => short_renewal(dice),
+    match dice.dealt("renewal", &RENEWALS) {
+        0 => wrong_date_renewal(dice),
+        1 => chosen_count_renewal(dice),
+        2 => any_count_renewal(dice),
+        3 => longest_renewal(dice),
+        4 => renewal_near_an_end(dice),
+        5 => renewal_over_an_end(dice),
+        6 => renewal_to_february(dice),
+        7 => short_renewal(dice),
         _ => renewal_inside(dice),
     }
 }
@@ -69,7 +80,7 @@ fn wrong_date_renewal(dice: &mut Dice) -> Case {
     let any = any_count(dice);
     let chosen = dice.one_of(CHOSEN_COUNTS);
     Case::Renewal {
-        first: wrong(dice),
+        first: wrong(dice, "wrong date to renew"),
         count: dice.one_of([0, 1, chosen, chosen, any]),
     }
 }
@@ -77,7 +88,7 @@ fn wrong_date_renewal(dice: &mut Dice) -> Case {
 fn chosen_count_renewal(dice: &mut Dice) -> Case {
     Case::Renewal {
         first: real(dice),
-        count: dice.one_of(CHOSEN_COUNTS),
+        count: dice.turn_of("count", CHOSEN_COUNTS),
     }
 }
 
@@ -92,12 +103,17 @@ fn any_count_renewal(dice: &mut Dice) -> Case {
 /// By the longest counts, mostly from the end of 2000 to 2099 from which alone
 /// they lead to a date.
 fn longest_renewal(dice: &mut Dice) -> Case {
-    let count = dice.one_of(COUNTS_AT_THE_ENDS);
+    let off_the_end = dice.turn_of("off the end", [0, 1]);
+    let count = if off_the_end == 0 {
+        dice.turn_of("longest count", COUNTS_AT_THE_ENDS)
+    } else {
+        dice.turn_of("longest count from inside", COUNTS_AT_THE_ENDS)
+    };
     let is_from_start = (count > 0) != dice.chance(15);
     let month = if is_from_start {
-        dice.one_of([FIRST_MONTH, FIRST_MONTH + 1])
+        FIRST_MONTH + off_the_end
     } else {
-        dice.one_of([LAST_MONTH - 1, LAST_MONTH])
+        LAST_MONTH - off_the_end
     };
     Case::Renewal {
         first: in_numbered_month(dice, month),
@@ -119,12 +135,12 @@ fn renewal_near_an_end(dice: &mut Dice) -> Case {
 /// forward: mostly outside.
 fn renewal_over_an_end(dice: &mut Dice) -> Case {
     let any = dice.below(12) as i16;
-    let from_end = dice.one_of([0, 0, any]);
-    let count = dice.one_of([1, 11, 12, 13]);
-    if dice.chance(50) {
+    let from_end = dice.one_of([0, 0, 0, any]);
+    let count = dice.turn_of("count over an end", [1, 11, 12, 13, -1, -11, -12, -13]);
+    if count < 0 {
         Case::Renewal {
             first: in_numbered_month(dice, FIRST_MONTH + from_end),
-            count: -count,
+            count,
         }
     } else {
         Case::Renewal {
@@ -137,15 +153,15 @@ fn renewal_over_an_end(dice: &mut Dice) -> Case {
 /// From a day that not every month has to February of a leap year or of another
 /// one.
 fn renewal_to_february(dice: &mut Dice) -> Case {
-    let first = if dice.chance(30) {
-        leap_day(dice)
-    } else {
-        late(dice)
+    let (year, deck) = match dice.dealt("February", &[1, 1]) {
+        0 => (leap_year(dice), "to a leap year"),
+        _ => (common_year(dice), "to a common year"),
     };
-    let year = if dice.chance(50) {
-        leap_year(dice)
-    } else {
-        common_year(dice)
+    let first = match dice.dealt(deck, &[1; 4]) {
+        0 => leap_day(dice),
+        1 => on_day(dice, 29),
+        2 => on_day(dice, 30),
+        _ => on_day(dice, 31),
     };
     let february = Date {
         year,
@@ -155,9 +171,11 @@ fn renewal_to_february(dice: &mut Dice) -> Case {
     renewal_to(first, month_number(february))
 }
 
-/// By up to two years, forward or back: over short months and year ends.
+/// By up to two years, forward or back: over short months and year ends. Often by
+/// whole years back.
 fn short_renewal(dice: &mut Dice) -> Case {
-    let count = dice.below(49) as i16 - 24;
+    let any = dice.below(49) as i16 - 24;
+    let count = dice.one_of([any, any, any, -12, -24]);
     Case::Renewal {
         first: real(dice),
         count,
@@ -197,27 +215,40 @@ fn any_count(dice: &mut Dice) -> i16 {
 
 /// The weekday, most times of a date that exists.
 pub fn weekday_case(dice: &mut Dice) -> Case {
-    let date = if dice.chance(35) {
-        wrong(dice)
-    } else {
-        real(dice)
+    let date = match dice.dealt("weekday", &[7, 13]) {
+        0 => wrong(dice, "wrong date of a weekday"),
+        _ => on_some_weekday(dice),
     };
     Case::Weekday { date }
+}
+
+/// A date that exists, on each weekday in its turn.
+fn on_some_weekday(dice: &mut Dice) -> Date {
+    let wanted = dice.turn_of("day of the week", [1, 2, 3, 4, 5, 6, 7]);
+    let mut date = real(dice);
+    for _ in 0..MOST_TRIES {
+        if weekday(date).weekday == wanted {
+            break;
+        }
+        date = real(dice);
+    }
+    date
 }
 
 /// The days between two dates, in either order: far apart, near to each other,
 /// equal, the first and the last there are, or with one that does not exist.
 pub fn days_case(dice: &mut Dice) -> Case {
-    let (first, second) = match dice.below(20) {
-        0..=1 => {
+    let (first, second) = match dice.dealt("days", &PAIRS) {
+        0 => {
             let date = real(dice);
             (date, date)
         }
-        2..=3 => (FIRST_DAY, LAST_DAY),
-        4..=6 => end_of_month(dice),
-        7..=9 => near(dice),
-        10..=12 => one_wrong(dice),
-        13 => (wrong(dice), wrong(dice)),
+        1 => (FIRST_DAY, LAST_DAY),
+        2 => end_of_month(dice),
+        3 => near(dice),
+        4 => over_leap_day(dice),
+        5 => (wrong_of_two(dice), real(dice)),
+        6 => (wrong_of_two(dice), wrong_of_two(dice)),
         _ => (real(dice), real(dice)),
     };
     if dice.chance(50) {
@@ -271,7 +302,19 @@ fn near(dice: &mut Dice) -> (Date, Date) {
     }
 }
 
-/// A date that does not exist and one that does.
-fn one_wrong(dice: &mut Dice) -> (Date, Date) {
-    (wrong(dice), real(dice))
+/// A date before 29 February and one after it, in the same year.
+fn over_leap_day(dice: &mut Dice) -> (Date, Date) {
+    let leap_day = leap_day(dice);
+    let later = dice.byte(3, 12);
+    let before = Date {
+        day: dice.byte(1, 28),
+        month: dice.byte(1, 2),
+        ..leap_day
+    };
+    (before, in_month(dice, leap_day.year, later))
+}
+
+/// One of two dates that does not exist.
+fn wrong_of_two(dice: &mut Dice) -> Date {
+    wrong(dice, "wrong date of two")
 }

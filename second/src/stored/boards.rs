@@ -24,6 +24,12 @@ const MOST: usize = 8_192;
 /// Two files that most cases use: TEXT "A" of 16 bytes and STRING "S" of 8.
 const TWO_FILES: &[u8] = b"E$AAU0010FF00SBL00080000";
 
+/// Blocks of a command or a function label that no board knows.
+const UNKNOWN_BLOCKS: [&[u8]; 18] = [
+    b"IA", b"C", b"D", b"J", b"M", b"N", b"O", b"a", b"\x05", b"\xFF", b"E#", b"E&5", b"E2A00",
+    b"E\"", b"F7", b"F&", b"F\"more", b"F%",
+];
+
 /// A board handed to a run.
 #[derive(Clone)]
 pub struct Kit {
@@ -104,6 +110,12 @@ impl Kit {
     /// The board with this index, true or not.
     pub fn with_index(mut self, index: Index) -> Kit {
         self.settings.index = index;
+        self
+    }
+
+    /// The board with this temperature offset, in its range or not.
+    pub fn with_offset(mut self, offset: i8) -> Kit {
+        self.settings.offset = offset;
         self
     }
 
@@ -195,6 +207,21 @@ impl List {
     pub(super) fn blocks(&mut self, about: &str, first: Number, kit: &Kit, frame: &[u8]) {
         let room = kit.memory.len() + REPLY_MARGIN;
         self.run_with(about, (DONE, first), kit, frame, room);
+    }
+
+    /// A run of each of these blocks alone on this board, and the number that each
+    /// is refused with, 0 where it is not.
+    pub(super) fn each(&mut self, about: &str, kit: &Kit, blocks: &[(&[u8], Number)]) {
+        for (block, first) in blocks {
+            self.blocks(about, *first, kit, &plain(b"Z00", &[block]));
+        }
+    }
+
+    /// The same where all have one number.
+    pub(super) fn each_alike(&mut self, about: &str, first: Number, kit: &Kit, blocks: &[&[u8]]) {
+        for block in blocks {
+            self.blocks(about, first, kit, &plain(b"Z00", &[block]));
+        }
     }
 
     fn fresh_boards(&mut self) {
@@ -599,36 +626,13 @@ impl List {
     }
 
     fn unknown(&mut self) {
-        let kit = two_messages();
-        for block in [
-            b"IA".as_slice(),
-            b"C",
-            b"D",
-            b"J",
-            b"M",
-            b"N",
-            b"O",
-            b"a",
-            b"\x05",
-            b"\xFF",
-            b"E#",
-            b"E&5",
-            b"E2A00",
-            b"E\"",
-            b"F7",
-            b"F&",
-            b"F\"more",
-            b"F%",
-        ] {
-            let frame = plain(b"Z00", &[block]);
-            self.blocks("an unknown command or label", UNKNOWN, &kit, &frame);
-        }
+        let about = "an unknown command or label";
+        self.each_alike(about, UNKNOWN, &two_messages(), &UNKNOWN_BLOCKS);
     }
 
     fn malformed(&mut self) {
-        let kit = two_messages();
-        for (block, first) in [
-            (b"A".as_slice(), MALFORMED),
+        let blocks: [(&[u8], Number); 42] = [
+            (b"A", MALFORMED),
             (b"G", MALFORMED),
             (b"B", MALFORMED),
             (b"H", MALFORMED),
@@ -670,16 +674,14 @@ impl List {
             (b"E7F", MALFORMED),
             (b"E7FFF", MALFORMED),
             (b"E7FG", MALFORMED),
-        ] {
-            let frame = plain(b"Z00", &[block]);
-            self.blocks("a function or a label", first, &kit, &frame);
-        }
+        ];
+        self.each("a function or a label", &two_messages(), &blocks);
     }
 
     fn files(&mut self) {
         let kit = two_messages();
-        for (block, first) in [
-            (b"AA".as_slice(), DONE),
+        let blocks: [(&[u8], Number); 21] = [
+            (b"AA", DONE),
             (b"AAHI", DONE),
             (b"AA\x05\xFF", DONE),
             (b"AA0123456789ABCDE", DONE),
@@ -700,10 +702,8 @@ impl List {
             (b"B0", NO_FILE),
             (b"HS", DONE),
             (b"HA", NO_FILE),
-        ] {
-            let frame = plain(b"Z00", &[block]);
-            self.blocks("a file", first, &kit, &frame);
-        }
+        ];
+        self.each("a file", &kit, &blocks);
         let frame = plain(b"Z00", &[b"AALONGER", b"AAHI", b"GSX", b"BA"]);
         self.blocks("the old tail is gone", DONE, &kit, &frame);
         let frame = plain(b"Z00", &[b"E71F", b"E 1234", b"E'M", b"F "]);

@@ -11,7 +11,7 @@ use crate::files::MOST_FILES;
 use crate::forms::with_escapes;
 use crate::hex::word_digits;
 use crate::numbers::{
-    BAD_BODY, BAD_LIST, DONE, LABEL_TWICE, MALFORMED, MESSAGE_TOO_LONG, NOT_SOUND, NO_FILE,
+    Number, BAD_BODY, BAD_LIST, DONE, LABEL_TWICE, MALFORMED, MESSAGE_TOO_LONG, NOT_SOUND, NO_FILE,
     NO_ROOM, SHORT_REPLY_BUFFER, UNKNOWN, WRONG_SUM,
 };
 use crate::record::RECORD_LENGTH;
@@ -270,8 +270,8 @@ fn last_records(list: &mut List) {
 
 /// Every function on a full board.
 fn functions(list: &mut List) {
-    for (block, first) in [
-        (b"E 2359".as_slice(), DONE),
+    let blocks: [(&[u8], Number); 16] = [
+        (b"E 2359", DONE),
         (b"E!00", DONE),
         (b"E'M", DONE),
         (b"E;123199", DONE),
@@ -287,10 +287,8 @@ fn functions(list: &mut List) {
         (b"F#", DONE),
         (b"F$0", MALFORMED),
         (b"F7", UNKNOWN),
-    ] {
-        let frame = plain(b"Z00", &[block]);
-        list.blocks("a function on 64 files", first, &full(), &frame);
-    }
+    ];
+    list.each("a function on 64 files", &full(), &blocks);
 }
 
 /// Files at the start, in the middle and at the end of a full board.
@@ -310,19 +308,8 @@ fn files(list: &mut List) {
         );
         list.blocks("its neighbour stays", DONE, &full(), &frame);
     }
-    for block in [
-        b"A~HI".as_slice(),
-        b"G~HI",
-        b"B~",
-        b"H~",
-        b"G ",
-        b"A!",
-        b"H ",
-        b"B!",
-    ] {
-        let frame = plain(b"Z00", &[block]);
-        list.blocks("none of 64 files", NO_FILE, &full(), &frame);
-    }
+    let blocks: [&[u8]; 8] = [b"A~HI", b"G~HI", b"B~", b"H~", b"G ", b"A!", b"H ", b"B!"];
+    list.each_alike("none of 64 files", NO_FILE, &full(), &blocks);
     let frame = plain(b"Z00", &[&read_block(MOST_FILES - 1)]);
     list.blocks("the last file, empty", DONE, &empty_files(), &frame);
 }

@@ -312,16 +312,15 @@ fn crowded_lists(list: &mut List) {
 /// A file that is not there beside another fault: the earlier number comes back.
 fn orders(list: &mut List) {
     let kit = two_files();
-    for (block, first) in [
-        (b"B0x".as_slice(), MALFORMED),
+    let blocks: [(&[u8], Number); 6] = [
+        (b"B0x", MALFORMED),
         (b"H\x7Fx", MALFORMED),
         (b"A", MALFORMED),
         (b"G0 a message that is longer than SIZE", NO_FILE),
         (b"GA a message that is longer than SIZE", NO_FILE),
         (b"GS a message that is longer than SIZE", MESSAGE_TOO_LONG),
-    ] {
-        list.blocks("an order", first, &kit, &plain(b"Z00", &[block]));
-    }
+    ];
+    list.each("an order", &kit, &blocks);
     let frame = b"\0\0\0\0\0\x01Z00\x02B0\x030000\x04";
     list.blocks("20 before 23", WRONG_SUM, &kit, frame);
 }

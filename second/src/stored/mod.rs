@@ -10,8 +10,10 @@ pub mod days_between;
 pub mod full;
 pub mod index;
 pub mod lookups;
+pub mod offsets;
 pub mod outputs;
 pub mod renewals;
+pub mod temperatures;
 pub mod unused;
 pub mod weekdays;
 
@@ -44,8 +46,8 @@ impl Stored {
 
 /// All fixed cases: writing, re-forming and joining first, then the boards,
 /// the full ones behind the others, then the dates of boards, their unused
-/// amounts, the files that they find and their indices, then the calls that
-/// reckon with dates.
+/// amounts, the files that they find, their indices and their temperature offsets,
+/// then the calls that reckon with dates, and last those with degrees.
 pub fn all() -> Vec<Stored> {
     let mut cases = outputs::all();
     cases.extend(boards::all());
@@ -54,9 +56,11 @@ pub fn all() -> Vec<Stored> {
     cases.extend(unused::all());
     cases.extend(lookups::all());
     cases.extend(index::all());
+    cases.extend(offsets::all());
     cases.extend(renewals::all());
     cases.extend(weekdays::all());
     cases.extend(days_between::all());
+    cases.extend(temperatures::all());
     cases
 }
 

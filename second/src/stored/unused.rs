@@ -286,9 +286,7 @@ fn functions(list: &mut List) {
         let frame = plain(b"Z00", &[block, POOL]);
         list.blocks("another function", DONE, &kit, &frame);
     }
-    for block in [b"BA".as_slice(), b"HS", b"F$"] {
-        list.blocks("a read", DONE, &kit, &plain(b"Z00", &[block]));
-    }
+    list.each_alike("a read", DONE, &kit, &[b"BA", b"HS", b"F$"]);
 }
 
 /// "keep it true through fresh boards"; "settings from 10 or 11 all zero". Those

@@ -6,11 +6,17 @@ use std::collections::BTreeSet;
 pub use second::stored::boards::Kit;
 pub use second::stored::build::{after, escaped, filled, pairs, plain, summed, without_nuls};
 
+use second::cases::any_case;
+use second::cases::boards::{records, sound};
+use second::cases::dice::Dice;
 use second::fresh::{fresh, Made};
 use second::joining::join;
+use second::record::Record;
 use second::reforming::reform;
 use second::run::{run, Ran};
 use second::settings::Settings;
+use second::stored::{all, Stored};
+use second::stream::{Answer, Case};
 use second::writing::write;
 
 pub const FILLER: u8 = 0xA5;
@@ -62,6 +68,151 @@ pub fn run_with(kit: &Kit, frame: &[u8], room: usize) -> After {
         reply,
     }
 }
+
+/// A wrong board is told before anything of the frame or of the buffer is looked
+/// at.
+pub fn assert_1_comes_first(wrong: &Kit) {
+    for frame in [b"".as_slice(), b"X", b"_4", b"\0\0\0\0\0\x01Z00\x02E'M"] {
+        assert_eq!(run_with(wrong, frame, 0).ran.number, 1);
+        assert_eq!(run_on(wrong, frame).ran.number, 1);
+    }
+}
+
+/// The board that a case hands to a run, and what comes of it; none of another
+/// call.
+pub fn run_of(case: &Case) -> Option<(Kit, After)> {
+    let Case::Run {
+        settings, memory, ..
+    } = case
+    else {
+        return None;
+    };
+    let before = Kit {
+        settings: *settings,
+        memory: memory.clone(),
+    };
+    let Answer::Run {
+        ran,
+        memory,
+        mut reply,
+    } = case.clone().answer()
+    else {
+        return None;
+    };
+    reply.truncate(ran.reply_length);
+    let kit = Kit {
+        settings: ran.settings,
+        memory,
+    };
+    Some((before, After { ran, kit, reply }))
+}
+
+/// How many of so many random runs were done, and how many of them moved this part
+/// of the settings. `look` is shown what came of each; one that was not done left
+/// the settings as they were.
+pub fn random_runs<T: PartialEq>(
+    (seed, count): (u64, usize),
+    part: impl Fn(Settings) -> T,
+    mut look: impl FnMut(&After),
+) -> (usize, usize) {
+    let mut dice = Dice::new(seed);
+    let (mut done, mut moved) = (0, 0);
+    for _ in 0..count {
+        let case = any_case(&mut dice, b"R").expect("a call to choose");
+        let (before, after) = run_of(&case).expect("a run was asked for");
+        if after.ran.number == 0 {
+            look(&after);
+            done += 1;
+            moved += usize::from(part(after.ran.settings) != part(before.settings));
+        } else {
+            assert_eq!(after.ran.settings, before.settings);
+        }
+    }
+    println!("{done} runs done, {moved} moved it");
+    (done, moved)
+}
+
+/// Random lists on random boards, each in a frame with "#" behind it. `next` is
+/// shown what came of the frame and tells with which board it goes on. Gives how
+/// many lists were done and how many refused.
+pub fn random_lists(
+    seed: u64,
+    (boards, lists): (usize, usize),
+    mut next: impl FnMut(&mut Dice, After) -> Kit,
+) -> (usize, usize) {
+    let mut dice = Dice::new(seed);
+    let (mut done, mut refused) = (0, 0);
+    for _ in 0..boards {
+        let mut kit = any_board(&mut dice);
+        for _ in 0..lists {
+            let list = any_list(&mut dice, &kit);
+            let after = run_on(&kit, &plain(b"Z00", &[&list, b"F#"]));
+            assert_eq!(after.ran.number, 0);
+            done += after.ran.done - 1;
+            refused += after.ran.refused;
+            kit = next(&mut dice, after);
+        }
+    }
+    println!("{done} lists done, {refused} refused");
+    (done, refused)
+}
+
+/// The fixed runs, each with the board that it is handed and what comes of it.
+pub fn fixed_runs() -> impl Iterator<Item = (Stored, Kit, After)> {
+    all().into_iter().filter_map(|stored| {
+        let (before, after) = run_of(&stored.case)?;
+        Some((stored, before, after))
+    })
+}
+
+/// A random sound board.
+pub fn any_board(dice: &mut Dice) -> Kit {
+    let board = sound(dice);
+    Kit {
+        settings: board.settings,
+        memory: board.memory,
+    }
+}
+
+/// A random "$" for a board, for which now and then there is no room.
+fn any_list(dice: &mut Dice, kit: &Kit) -> Vec<u8> {
+    let longer = kit.memory.len() + dice.one_of([0, 0, 1, 11, 100]);
+    let list: Vec<u8> = records(dice, longer)
+        .into_iter()
+        .flat_map(Record::to_bytes)
+        .collect();
+    [b"E$".as_slice(), &list].concat()
+}
+
+/// Blocks for [`two_files`] that set neither files nor an offset, many of them
+/// refused.
+pub const OTHER_COMMANDS: [&[u8]; 25] = [
+    b"AAHELLO",
+    b"AA",
+    b"AA0123456789ABCDEF",
+    b"AA0123456789ABCDEFG",
+    b"AXHI",
+    b"GSHELLO",
+    b"GS",
+    b"GS012345678",
+    b"GA",
+    b"BA",
+    b"HS",
+    b"E 2359",
+    b"E!00",
+    b"E'M",
+    b"E;123199",
+    b"E7FF",
+    b"E#",
+    b"E#1234",
+    b"E$AAU0001FF0",
+    b"ET+10",
+    b"F$",
+    b"F#",
+    b"F#0",
+    b"FT",
+    b"X",
+];
 
 /// The frame's number.
 pub fn number_of(kit: &Kit, frame: &[u8]) -> u8 {
@@ -197,7 +348,7 @@ pub fn reply_of(code_label_data: &[u8], sum: &[u8]) -> Vec<u8> {
 
 /// The numbers that each call can answer; those of a run's first refused block
 /// stand under "r".
-const NUMBERS: [(u8, &[u8]); 9] = [
+const NUMBERS: [(u8, &[u8]); 10] = [
     (b'N', &[0, 10, 11]),
     (b'R', &[0, 1, 2, 3, 4, 5, 6, 7, 8, 9]),
     (b'r', &[20, 21, 22, 23, 24, 25, 26, 27]),
@@ -207,6 +358,7 @@ const NUMBERS: [(u8, &[u8]); 9] = [
     (b'D', &[0, 30, 31, 32]),
     (b'Y', &[0, 30]),
     (b'B', &[0, 30]),
+    (b'T', &[0, 1, 33]),
 ];
 
 /// Checks that of each call all its numbers were seen, and no others.

@@ -1,7 +1,8 @@
 //! What is looked for in a stream of cases, the random and the fixed ones: the
 //! ends of what document 01 allows, every command on a crowded board, the end
 //! of every month as a command and on a board, right and wrong unused amounts,
-//! true and wrong indices, files found and not found, and what request 6 reckons.
+//! true and wrong indices, files found and not found, good and wrong temperature
+//! offsets, and what requests 6 and 9 reckon.
 
 use std::collections::{BTreeMap, BTreeSet};
 
@@ -11,11 +12,12 @@ use crate::indices::{
     kind_of_twins, kinds_of, laid, true_entries, twins, wanted_kinds, Entries, Kind, Laid,
 };
 use crate::lookups::{content_at, meant, sought, walked_to, wanted_lookups, Sought};
+use crate::offsets::{self, field_of, number_on_board, told, wanted_fields, wanted_offsets, Field};
 use crate::reckoned::{shown_by, wanted as wanted_of_reckoning, Shown};
 use second::body::{Block, MOST_BLOCKS};
 use second::bytes::{
     CONFIGURATION, DATE, EOT, POOL, READ_SPECIAL, READ_STRING, READ_TEXT, SERIAL_ADDRESS, SPEAKER,
-    STX, TIME, TIME_FORMAT, WRITE_SPECIAL, WRITE_STRING, WRITE_TEXT,
+    STX, TEMPERATURE_OFFSET, TIME, TIME_FORMAT, WRITE_SPECIAL, WRITE_STRING, WRITE_TEXT,
 };
 use second::commands::{run_block, Board};
 use second::files::{walk, MOST_FILES};
@@ -25,7 +27,7 @@ use second::hex::frame_digit;
 use second::index::Index;
 use second::numbers::{
     BAD_BODY, BAD_LIST, DONE, MALFORMED, MESSAGE_TOO_LONG, NOT_SOUND, NO_FILE, SHORT_REPLY_BUFFER,
-    WRONG_MEMORY, WRONG_SUM,
+    UNKNOWN, WRONG_MEMORY, WRONG_SUM,
 };
 use second::record::{labels_are_distinct, Record, RECORD_LENGTH};
 use second::run::{run, Ran, REPLY_MARGIN};
@@ -41,13 +43,14 @@ const SMALL_MEMORY: usize = 1_536;
 /// The bytes of a reply that are not data.
 const EMPTY_REPLY: usize = 33;
 /// The functions that "E" sets.
-const SET: [u8; 6] = [
+const SET: [u8; 7] = [
     TIME,
     SPEAKER,
     TIME_FORMAT,
     DATE,
     SERIAL_ADDRESS,
     CONFIGURATION,
+    TEMPERATURE_OFFSET,
 ];
 /// The functions that "F" reads.
 const READ: [u8; 6] = [TIME, SPEAKER, TIME_FORMAT, DATE, CONFIGURATION, POOL];
@@ -107,6 +110,18 @@ pub enum Fact {
     Lookup(u8, Sought),
     /// A renewal date, a weekday or the days between two dates.
     Reckoned(Shown),
+    /// A board with this temperature offset, all else sound and good: 0, or 1.
+    BoardOffset(i8),
+    /// Set Temperature Offset with such data, on a board that ran it: done, or 22.
+    SetOffset(Field),
+    /// The same with a wrong sum: 20.
+    SetOffsetWrongSum,
+    /// F "T": 21.
+    ReadOffset,
+    /// A "$" that was done on a board whose offset is not 0.
+    OffsetKept,
+    /// A reading with an offset added.
+    Added(offsets::Shown),
 }
 
 /// All that is looked for.
@@ -146,6 +161,19 @@ pub fn wanted() -> Vec<Fact> {
     wanted.extend(wanted_board_indices());
     wanted.extend(wanted_file_lookups());
     wanted.extend(wanted_of_reckoning().into_iter().map(Fact::Reckoned));
+    wanted.extend(wanted_of_offsets());
+    wanted.extend(offsets::wanted().into_iter().map(Fact::Added));
+    wanted
+}
+
+/// Offsets on boards, and every sort of data of Set Temperature Offset.
+pub fn wanted_of_offsets() -> Vec<Fact> {
+    let on_boards = wanted_offsets().into_iter();
+    let mut wanted: Vec<Fact> = on_boards
+        .map(|(offset, _)| Fact::BoardOffset(offset))
+        .collect();
+    wanted.extend(wanted_fields().into_iter().map(Fact::SetOffset));
+    wanted.extend([Fact::SetOffsetWrongSum, Fact::ReadOffset, Fact::OffsetKept]);
     wanted
 }
 
@@ -232,6 +260,9 @@ impl Seen {
         for shown in shown_by(&case, &answer) {
             self.add(Fact::Reckoned(shown));
         }
+        for shown in offsets::shown_by(&case, &answer) {
+            self.add(Fact::Added(shown));
+        }
         match (case, answer) {
             (Case::Fresh { memory, .. }, Answer::Fresh { made, .. }) => {
                 self.add(Fact::Fresh(memory.len(), made.number));
@@ -252,6 +283,8 @@ impl Seen {
                 self.look_at_date(settings, &ran, number);
                 self.look_at_amount(settings, &memory, &ran, number);
                 self.look_at_index(settings, &memory, &ran);
+                self.look_at_offset(settings, &ran, number);
+                assert!(ran.number == DONE || ran.settings == settings);
                 if is_sound(settings, &memory) {
                     self.look_at_board(settings, &memory);
                     self.look_at_buffer(&memory, &reply, &ran);
@@ -345,6 +378,23 @@ impl Seen {
         }
     }
 
+    /// The offset of a board that was handed in with all else sound and good: with
+    /// 0 in its place the frame is run.
+    fn look_at_offset(&mut self, settings: Settings, ran: &Ran, number: impl Fn(Settings) -> u8) {
+        let expected = number_on_board(settings.offset);
+        let number_with_none = match expected {
+            DONE => ran.number,
+            _ => number(Settings {
+                offset: 0,
+                ..settings
+            }),
+        };
+        if number_with_none == DONE {
+            assert_eq!(ran.number, expected, "{}", settings.offset);
+            self.add(Fact::BoardOffset(settings.offset));
+        }
+    }
+
     /// A sound board, as it was handed in.
     fn look_at_board(&mut self, settings: Settings, memory: &[u8]) {
         let length = memory.len();
@@ -419,8 +469,11 @@ impl Seen {
         let blocks = met(settings, memory, &frame.blocks);
         let done = blocks.iter().filter(|met| met.outcome.is_ok()).count();
         assert_eq!((done, blocks.len() - done), (ran.done, ran.refused));
+        let set = blocks.iter().filter_map(Met::offset).next_back();
+        assert_eq!(ran.settings.offset, set.unwrap_or(settings.offset));
         for met in &blocks {
             self.look_at_set_date(met);
+            self.look_at_set_offset(met);
             self.look_at_list(met, memory.len());
             self.look_at_lookup(met);
             self.look_at_reply(met);
@@ -450,6 +503,29 @@ impl Seen {
             };
             assert_eq!(met.outcome, expected, "{sort:?}");
             self.add(Fact::SetDate(sort));
+        }
+    }
+
+    /// A Set Temperature Offset, and what is said to a reading of the offset.
+    fn look_at_set_offset(&mut self, met: &Met<'_>) {
+        match (met.block.command, met.block.data, &met.outcome) {
+            (WRITE_SPECIAL, [TEMPERATURE_OFFSET, ..], Err(WRONG_SUM)) => {
+                self.add(Fact::SetOffsetWrongSum);
+            }
+            (WRITE_SPECIAL, [TEMPERATURE_OFFSET, data @ ..], outcome) => {
+                let expected = told(data).map(|_| None).ok_or(MALFORMED);
+                assert_eq!(outcome, &expected, "{data:?}");
+                self.add(Fact::SetOffset(field_of(data)));
+            }
+            (READ_SPECIAL, [TEMPERATURE_OFFSET, ..], outcome) => {
+                let is_wrong_sum = *outcome == Err(WRONG_SUM);
+                assert!(is_wrong_sum || *outcome == Err(UNKNOWN));
+                self.add_if(!is_wrong_sum, Fact::ReadOffset);
+            }
+            (WRITE_SPECIAL, [CONFIGURATION, ..], Ok(_)) => {
+                self.add_if(met.before != 0, Fact::OffsetKept);
+            }
+            _ => {}
         }
     }
 
@@ -498,11 +574,12 @@ impl Seen {
     }
 }
 
-/// A block, the number of files that it met on the board, what it saw there if
-/// it looked for a file, and what came of it.
+/// A block, the number of files and the temperature offset that it met on the
+/// board, what it saw there if it looked for a file, and what came of it.
 struct Met<'a> {
     block: &'a Block<'a>,
     files: u8,
+    before: i8,
     seen: Option<InFiles>,
     outcome: Result<Option<Vec<u8>>, u8>,
 }
@@ -526,6 +603,17 @@ fn in_files(board: &Board<'_>, block: &Block<'_>, before: &[Laid]) -> Option<InF
 }
 
 impl Met<'_> {
+    /// The offset that the block's data tell, where it sets one and its sum is not
+    /// wrong.
+    fn offset(&self) -> Option<i8> {
+        match (self.block.command, self.block.data) {
+            (WRITE_SPECIAL, [TEMPERATURE_OFFSET, data @ ..]) if self.outcome != Err(WRONG_SUM) => {
+                told(data)
+            }
+            _ => None,
+        }
+    }
+
     /// The label of the file that the block wrote.
     fn written_label(&self) -> Option<u8> {
         match self.block.command {
@@ -548,6 +636,7 @@ fn met<'a>(settings: Settings, memory: &[u8], blocks: &'a [Block<'a>]) -> Vec<Me
         .map(|block| Met {
             block,
             files: board.settings.files,
+            before: board.settings.offset,
             seen: in_files(&board, block, &before),
             outcome: run_block(&mut board, block),
         })

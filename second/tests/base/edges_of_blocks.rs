@@ -36,7 +36,7 @@ fn number_21() {
         let known = b"ABEFGH".contains(&byte);
         let number = if known { 22 } else { 21 };
         assert_eq!(block_number(&kit, &[byte]), number, "{byte:02X}");
-        let set_label = b" !';7$".contains(&byte);
+        let set_label = b" !';7$T".contains(&byte);
         let number = match (set_label, byte) {
             (true, b'$') => 0,
             (true, _) => 22,
@@ -133,6 +133,13 @@ fn number_22_of_functions() {
         (b"E70", 22),
         (b"E7000", 22),
         (b"E7", 22),
+        (b"ET+0", 0),
+        (b"ET-9", 0),
+        (b"ET*0", 22),
+        (b"ET+:", 22),
+        (b"ET+", 22),
+        (b"ET+00", 22),
+        (b"ET", 22),
     ] {
         assert_eq!(block_number(&kit, block), number, "{block:?}");
     }

@@ -1,16 +1,17 @@
 //! The random cases: every number that a call can answer occurs, most runs are
 //! on sound, addressed boards, both ends of every bound are reached, and so are
 //! the end of every month, every kind of wrong unused amount, every kind of wrong
-//! index, every sort of label that is looked for and every end of what request 6
-//! reckons.
+//! index, every sort of label that is looked for, every temperature offset and
+//! every end of what requests 6 and 9 reckon.
 
 use std::collections::BTreeMap;
 use std::sync::OnceLock;
 
 use crate::common::assert_every_number;
 use crate::coverage::{
-    wanted_board_amounts, wanted_board_indices, wanted_file_lookups, Fact, Seen,
+    wanted_board_amounts, wanted_board_indices, wanted_file_lookups, wanted_of_offsets, Fact, Seen,
 };
+use crate::offsets::{wanted as wanted_of_degrees, Shown as Degrees};
 use crate::reckoned::{wanted as wanted_of_reckoning, Shown};
 use second::cases::amounts;
 use second::cases::any_case;
@@ -18,11 +19,10 @@ use second::cases::boards::{small, small_crowd, small_or_empty, sound};
 use second::cases::dates::wrong;
 use second::cases::dice::Dice;
 use second::cases::indices;
+use second::cases::temperatures::wrong_offset;
 use second::cases::write_cases;
 use second::soundness::{is_sound, LEAST_MEMORY, MOST_MEMORY};
-use second::stream::{
-    next_case, Answer, Case, Next, CALLS, DAYS_CALL, RENEWAL_CALL, RUN_CALL, WEEKDAY_CALL,
-};
+use second::stream::{next_case, Answer, Case, Next, CALLS, RUN_CALL};
 
 const CASES: usize = 7_200;
 
@@ -32,17 +32,23 @@ const GATE_SEED: u64 = 20_261_115;
 const GATE_COUNT: usize = 7_200;
 /// What these cases may take, so that both programs stay quick.
 const GATE_MOST_BYTES: usize = 15_000_000;
-/// The calls on frames and boards, and how often at least each comes up in these
-/// cases, so that a call that is added takes nothing from them.
-const GATE_LEAST: [(u8, usize); 5] = [
+/// How often at least each call comes up in these cases, so that a call that is
+/// added takes nothing from them.
+const GATE_LEAST: [(u8, usize); 9] = [
     (b'N', 337),
     (b'R', 2_424),
     (b'W', 585),
     (b'F', 835),
     (b'J', 819),
+    (b'D', 700),
+    (b'Y', 250),
+    (b'B', 350),
+    (b'T', 240),
 ];
+/// Seeds that the gate does not have.
+const OTHER_SEEDS: [u64; 6] = [1, 2, 3, 4, 5, 20_261_116];
 /// How often at least these cases show what is looked for in unused amounts, in
-/// indices, in lookups and in the calls that reckon with dates.
+/// indices, in lookups, in temperature offsets and in the calls that reckon.
 const GATE_SEVERAL: usize = 3;
 /// The same for their numbers, for going back over a year's beginning, for every
 /// weekday and for days of either sign.
@@ -85,8 +91,8 @@ fn every_number_occurs() {
 }
 
 /// Boards that are meant to be sound are, and are not with a date that is
-/// meant not to exist, with an unused amount or with an index that is meant to be
-/// wrong.
+/// meant not to exist, with an unused amount, with an index or with a temperature
+/// offset that is meant to be wrong.
 #[test]
 fn boards_are_as_meant() {
     let mut dice = Dice::new(4);
@@ -105,6 +111,9 @@ fn boards_are_as_meant() {
             let mut wrong = board.clone();
             indices::make_wrong(&mut dice, &mut wrong);
             assert!(!is_sound(wrong.settings, &wrong.memory), "{wrong:?}");
+            let mut wrong = board.settings;
+            wrong.offset = wrong_offset(&mut dice);
+            assert!(!is_sound(wrong, &board.memory), "{wrong:?}");
         }
     }
 }
@@ -136,116 +145,167 @@ fn the_stream_is_the_cases() {
     assert_eq!(next_case(&mut input).expect("memory gives it"), Next::End);
 }
 
-/// The cases as the gate's stream hands them to both programs.
-fn gate_cases() -> Vec<Case> {
-    let mut stream = Vec::new();
-    write_cases(&mut stream, GATE_SEED, GATE_COUNT, &CALLS).expect("memory takes it");
-    println!("{} bytes", stream.len());
-    assert!(stream.len() < GATE_MOST_BYTES, "{}", stream.len());
-    let mut input = stream.as_slice();
-    let mut cases = Vec::new();
-    while let Next::Case(case) = next_case(&mut input).expect("memory gives it") {
-        cases.push(*case);
-    }
-    cases
+/// A stream as long as the gate's: its cases as both programs are handed them,
+/// and what they show.
+struct Stream {
+    cases: Vec<Case>,
+    seen: Seen,
 }
 
-/// What these cases show, looked at once for all tests.
-fn gate_seen() -> &'static Seen {
-    static SEEN: OnceLock<Seen> = OnceLock::new();
-    SEEN.get_or_init(|| Seen::in_cases(gate_cases().into_iter()))
+impl Stream {
+    fn of(seed: u64) -> Stream {
+        let mut stream = Vec::new();
+        write_cases(&mut stream, seed, GATE_COUNT, &CALLS).expect("memory takes it");
+        println!("{} bytes", stream.len());
+        assert!(stream.len() < GATE_MOST_BYTES, "{}", stream.len());
+        let mut input = stream.as_slice();
+        let mut cases = Vec::new();
+        while let Next::Case(case) = next_case(&mut input).expect("memory gives it") {
+            cases.push(*case);
+        }
+        let seen = Seen::in_cases(cases.iter().cloned());
+        Stream { cases, seen }
+    }
+
+    /// The gate's own, looked at once for all tests.
+    fn of_the_gate() -> &'static Stream {
+        static STREAM: OnceLock<Stream> = OnceLock::new();
+        STREAM.get_or_init(|| Stream::of(GATE_SEED))
+    }
+
+    fn count(&self, call: u8) -> usize {
+        self.cases.iter().filter(|case| case.call() == call).count()
+    }
+
+    /// Checks that every call is made often enough.
+    fn assert_calls(&self) {
+        for call in CALLS {
+            println!("{} {}", self.count(call), char::from(call));
+        }
+        for (call, least) in GATE_LEAST {
+            let count = self.count(call);
+            assert!(count >= least, "{count} {}", char::from(call));
+        }
+    }
+
+    /// Checks that each of these facts is shown so often.
+    fn assert_shown(&self, facts: &[Fact], least: impl Fn(Fact) -> usize) {
+        for fact in facts {
+            println!("{} {fact:?}", self.seen.count(*fact));
+        }
+        for fact in facts {
+            let count = self.seen.count(*fact);
+            assert!(count >= least(*fact), "{count} {fact:?}");
+        }
+    }
+
+    /// Checks that each of these facts is shown several times.
+    fn assert_several(&self, facts: &[Fact]) {
+        self.assert_shown(facts, |_| GATE_SEVERAL);
+    }
+
+    /// Checks what is looked for in the calls that reckon with dates and with
+    /// degrees.
+    fn assert_reckoning(&self) {
+        let dates = wanted_of_reckoning().into_iter().map(Fact::Reckoned);
+        let degrees = wanted_of_degrees().into_iter().map(Fact::Added);
+        let facts: Vec<Fact> = dates.chain(degrees).collect();
+        self.assert_shown(&facts, least_of);
+    }
+
+    /// Checks both ends of what document 01 allows, that more than a third of the
+    /// cases on frames and boards are runs on sound boards, and that a tenth of
+    /// the runs meets many files.
+    fn assert_ends(&self) {
+        assert_eq!(self.cases.len(), GATE_COUNT);
+        self.seen.assert_all();
+        let older: usize = b"NRWFJ".iter().map(|&call| self.count(call)).sum();
+        let lengths = LEAST_MEMORY..=MOST_MEMORY;
+        let counts = lengths.map(|length| self.seen.count(Fact::Memory(length)));
+        let sound: usize = counts.sum();
+        println!("{sound} runs on sound boards");
+        assert!(3 * sound >= older, "{sound} of {older}");
+        let runs = self.count(RUN_CALL);
+        let counts = (40..=64).map(|files| self.seen.count(Fact::Files(files)));
+        let crowded: usize = counts.sum();
+        println!("{crowded} of {runs} runs on 40 to 64 files");
+        assert!(10 * crowded >= runs, "{crowded} of {runs}");
+    }
+}
+
+/// How often at least the gate's cases are to show something of the calls that
+/// reckon: each way not to exist once for each call.
+fn least_of(fact: Fact) -> usize {
+    match fact {
+        Fact::Reckoned(Shown::Wrong(..)) => 1,
+        Fact::Reckoned(
+            Shown::Number(..) | Shown::BackOverYear { .. } | Shown::Weekday(_) | Shown::Sign(_),
+        )
+        | Fact::Added(Degrees::Number(_)) => GATE_OFTEN,
+        _ => GATE_SEVERAL,
+    }
 }
 
 /// The cases of the gate make every call often enough.
 #[test]
 fn the_gate_makes_every_call() {
-    let cases = gate_cases();
-    let count = |call| cases.iter().filter(|case| case.call() == call).count();
-    for call in CALLS {
-        println!("{} {}", count(call), char::from(call));
-    }
-    for (call, least) in GATE_LEAST {
-        assert!(count(call) >= least, "{} {}", count(call), char::from(call));
-    }
-    assert!(count(RENEWAL_CALL) >= 700);
-    assert!(count(WEEKDAY_CALL) >= 250);
-    assert!(count(DAYS_CALL) >= 350);
-}
-
-/// How often at least the gate's cases are to show something of the calls that
-/// reckon with dates: each way not to exist once for each call.
-fn least_of(shown: Shown) -> usize {
-    match shown {
-        Shown::Wrong(..) => 1,
-        Shown::Number(..) | Shown::BackOverYear { .. } | Shown::Weekday(_) | Shown::Sign(_) => {
-            GATE_OFTEN
-        }
-        _ => GATE_SEVERAL,
-    }
+    Stream::of_the_gate().assert_calls();
 }
 
 /// The cases of the gate show all that is looked for in the calls that reckon
-/// with dates, most of it several times.
+/// with dates and with degrees, most of it several times.
 #[test]
 fn the_gate_reckons_at_every_end() {
-    let seen = gate_seen();
-    for shown in wanted_of_reckoning() {
-        let count = seen.count(Fact::Reckoned(shown));
-        println!("{count} {shown:?}");
-    }
-    for shown in wanted_of_reckoning() {
-        let count = seen.count(Fact::Reckoned(shown));
-        assert!(count >= least_of(shown), "{count} {shown:?}");
-    }
+    Stream::of_the_gate().assert_reckoning();
 }
 
 /// The cases of the gate hold every kind of wrong unused amount, answered by 1,
 /// and right ones, answered by 0, without files and with them.
 #[test]
 fn the_gate_holds_wrong_amounts() {
-    assert_several(&wanted_board_amounts());
+    Stream::of_the_gate().assert_several(&wanted_board_amounts());
 }
 
 /// The same of the index.
 #[test]
 fn the_gate_holds_wrong_indices() {
-    assert_several(&wanted_board_indices());
+    Stream::of_the_gate().assert_several(&wanted_board_indices());
 }
 
 /// The cases of the gate look for files of every sort by each command.
 #[test]
 fn the_gate_looks_for_files() {
-    assert_several(&wanted_file_lookups());
+    Stream::of_the_gate().assert_several(&wanted_file_lookups());
 }
 
-/// Checks that the gate's cases show each of these several times.
-fn assert_several(facts: &[Fact]) {
-    let seen = gate_seen();
-    for fact in facts {
-        println!("{} {fact:?}", seen.count(*fact));
-    }
-    for fact in facts {
-        assert!(seen.count(*fact) >= GATE_SEVERAL, "{fact:?}");
-    }
+/// The cases of the gate hold temperature offsets on either side of both limits
+/// and every good one, and set every one by good data and by every kind of bad.
+#[test]
+fn the_gate_holds_and_sets_offsets() {
+    Stream::of_the_gate().assert_several(&wanted_of_offsets());
 }
 
 /// The cases of the gate reach both ends of what document 01 allows, every
-/// command on a crowded board and the end of every month; more than a third of
-/// those on frames and boards are runs on sound boards.
+/// command on a crowded board and the end of every month.
 #[test]
 fn the_gate_reaches_every_end() {
-    let cases = gate_cases();
-    assert_eq!(cases.len(), GATE_COUNT);
-    let runs = cases.iter().filter(|case| case.call() == RUN_CALL).count();
-    let is_older = |case: &&Case| b"NRWFJ".contains(&case.call());
-    let older = cases.iter().filter(is_older).count();
-    let seen = gate_seen();
-    seen.assert_all();
-    let lengths = LEAST_MEMORY..=MOST_MEMORY;
-    let sound: usize = lengths.map(|length| seen.count(Fact::Memory(length))).sum();
-    println!("{sound} runs on sound boards");
-    assert!(3 * sound >= older, "{sound} of {older}");
-    let crowded: usize = (40..=64).map(|files| seen.count(Fact::Files(files))).sum();
-    println!("{crowded} of {runs} runs on 40 to 64 files");
-    assert!(10 * crowded >= runs, "{crowded} of {runs}");
+    Stream::of_the_gate().assert_ends();
+}
+
+/// No seed is a lucky one: streams of others show all of it too. It takes a
+/// while, and the gate has but one seed: `cargo test --release -- --ignored`.
+#[test]
+#[ignore = "slow, and about other seeds than the gate's"]
+fn other_seeds_do_as_well() {
+    for seed in OTHER_SEEDS {
+        println!("seed {seed}");
+        let stream = Stream::of(seed);
+        stream.assert_calls();
+        stream.assert_reckoning();
+        stream.assert_several(&wanted_board_amounts());
+        stream.assert_several(&wanted_board_indices());
+        stream.assert_several(&wanted_file_lookups());
+        stream.assert_several(&wanted_of_offsets());
+        stream.assert_ends();
+    }
 }

@@ -5,18 +5,13 @@ use crate::common::*;
 use crate::indices::{laid, true_entries, Entries, NOTHING};
 use crate::lookups::walked_to;
 use second::body::Block;
-use second::cases::any_case;
-use second::cases::boards::{records, sound};
-use second::cases::dice::Dice;
 use second::commands::{run_block, Board};
 use second::index::{Begin, Index};
-use second::record::Record;
 use second::right_index::right_index;
 use second::settings::Settings;
 use second::soundness::is_sound;
 use second::stored::index::all as stored_indices;
-use second::stored::{all, Stored};
-use second::stream::{Answer, Case};
+use second::stream::Case;
 
 /// The sheet's two files: their records begin at 0 and at 27.
 const TWO_RECORDS: &[u8] = b"E$AAU0010FF00SBL00080000";
@@ -206,14 +201,9 @@ fn whole_indices() {
     }
 }
 
-/// A wrong index is looked at before anything of the frame or of the buffer.
 #[test]
 fn number_1_comes_first() {
-    let wrong = two_files().with_entry(b'0', 0);
-    for frame in [b"".as_slice(), b"X", b"_4", b"\0\0\0\0\0\x01Z00\x02E'M"] {
-        assert_eq!(run_with(&wrong, frame, 0).ran.number, 1);
-        assert_eq!(run_on(&wrong, frame).ran.number, 1);
-    }
+    assert_1_comes_first(&two_files().with_entry(b'0', 0));
 }
 
 /// One block on a board that may hold any index.
@@ -355,91 +345,34 @@ fn lists() {
 #[test]
 fn other_commands_leave_it() {
     let kit = two_files();
-    for block in [
-        b"AAHELLO".as_slice(),
-        b"AA0123456789ABCDEFG",
-        b"AXHI",
-        b"GSHELLO",
-        b"GA",
-        b"BA",
-        b"HS",
-        b"E 2359",
-        b"E!00",
-        b"E'M",
-        b"E;123199",
-        b"E7FF",
-        b"E#",
-        b"E$AAU0001FF0",
-        b"F$",
-        b"F#",
-        b"X",
-    ] {
+    for block in OTHER_COMMANDS {
         let after = run_on(&kit, &plain(b"Z00", &[block]));
-        assert_eq!(after.ran.number, 0);
         assert_eq!(after.ran.settings.index, kit.settings.index, "{block:?}");
     }
 }
 
-/// Random frames on random boards: a frame that is run leaves an index that a
-/// plain walk finds true, and one that is not run leaves it as it was.
+/// Random frames on random boards leave an index that a plain walk finds true.
 #[test]
 fn it_stays_true() {
-    let mut dice = Dice::new(73);
-    let (mut runs, mut moved) = (0, 0);
-    for _ in 0..3_000 {
-        let case = any_case(&mut dice, b"R").expect("a call to choose");
-        let Case::Run { settings, .. } = &case else {
-            panic!("{case:?}");
-        };
-        let before = *settings;
-        let Answer::Run { ran, memory, .. } = case.answer() else {
-            panic!("a run gives its answer");
-        };
-        if ran.number != 0 {
-            assert_eq!(ran.settings, before);
-            continue;
-        }
-        let right = walked(ran.settings, &memory);
-        assert_eq!(Some(ran.settings.index.entries), right);
-        runs += 1;
-        moved += usize::from(ran.settings.index != before.index);
-    }
-    println!("{runs} runs, {moved} moved the index");
-    assert!(runs > 1_500 && moved > 300);
+    let look = |after: &After| assert_true(&after.kit);
+    let (done, moved) = random_runs((73, 3_000), |settings| settings.index, look);
+    assert!(done > 1_500 && moved > 300);
 }
 
 /// The same over frames that follow each other on one board: random lists, some
 /// of them with no room, and lookups of every label between them.
 #[test]
 fn it_stays_true_from_frame_to_frame() {
-    let mut dice = Dice::new(74);
-    let (mut done, mut refused) = (0, 0);
-    for _ in 0..20 {
-        let board = sound(&mut dice);
-        let mut kit = Kit {
-            settings: board.settings,
-            memory: board.memory,
-        };
-        for _ in 0..10 {
-            let longer = kit.memory.len() + dice.one_of([0, 0, 1, 11, 100]);
-            let list: Vec<u8> = records(&mut dice, longer)
-                .into_iter()
-                .flat_map(Record::to_bytes)
-                .collect();
-            let block = [b"E$".as_slice(), &list].concat();
-            let after = run_on(&kit, &plain(b"Z00", &[&block]));
-            done += after.ran.done;
-            refused += after.ran.refused;
-            kit = after.kit;
-            assert_true(&kit);
-            let files = laid(&kit.memory, kit.settings.files).expect("a sound board");
-            for label in 0x20..=0x7E {
-                let found = answer(&kit, b'B', &[label]).is_ok();
-                assert_eq!(found, walked_to(&files, (label, b'A')).is_some());
-            }
+    let (done, refused) = random_lists(74, (20, 10), |_, after| {
+        let kit = after.kit;
+        assert_true(&kit);
+        let files = laid(&kit.memory, kit.settings.files).expect("a sound board");
+        for label in 0x20..=0x7E {
+            let found = answer(&kit, b'B', &[label]).is_ok();
+            assert_eq!(found, walked_to(&files, (label, b'A')).is_some());
         }
-    }
-    println!("{done} lists done, {refused} refused");
+        kit
+    });
     assert!(done > 100 && refused > 20);
 }
 
@@ -508,30 +441,18 @@ fn right_indices() {
 fn fixed_cases() {
     let own: Vec<Case> = stored_indices().into_iter().map(|own| own.case).collect();
     let (mut right, mut wrong, mut none) = (0, 0, 0);
-    for Stored { case, number, .. } in all() {
-        let Case::Run {
-            settings, memory, ..
-        } = &case
-        else {
+    for (stored, before, after) in fixed_runs() {
+        let Some(entries) = walked(before.settings, &before.memory) else {
+            assert_eq!(stored.number, 1);
+            none += 1;
             continue;
         };
-        match walked(*settings, memory) {
-            Some(entries) if entries == settings.index.entries => right += 1,
-            Some(_) => {
-                assert!(number == 1 && own.contains(&case));
-                wrong += 1;
-            }
-            None => {
-                assert_eq!(number, 1);
-                none += 1;
-            }
-        }
-        let Answer::Run { ran, memory, .. } = case.answer() else {
-            panic!("a run gives its answer");
-        };
-        if ran.number == 0 {
-            let left = walked(ran.settings, &memory).expect("a sound board");
-            assert_eq!(ran.settings.index.entries, left);
+        let is_true = entries == before.settings.index.entries;
+        assert!(is_true || stored.number == 1 && own.contains(&stored.case));
+        right += usize::from(is_true);
+        wrong += usize::from(!is_true);
+        if after.ran.number == 0 {
+            assert_true(&after.kit);
         }
     }
     println!("{right} true, {wrong} wrong, {none} without a true one");

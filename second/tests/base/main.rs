@@ -1,5 +1,5 @@
-//! The tests of the base of document 01 and of requests 1, 3, 6 and 7 of
-//! document 02, one idea to a file.
+//! The tests of the base of document 01 and of requests 1, 3, 6, 7 and 9
+//! of document 02, one idea to a file.
 #![forbid(unsafe_code)]
 
 mod amounts;
@@ -8,6 +8,7 @@ mod common;
 mod coverage;
 mod dates;
 mod days_between;
+mod dealing;
 mod edges_of_blocks;
 mod edges_of_frames;
 mod edges_of_outputs;
@@ -16,6 +17,8 @@ mod headers;
 mod index;
 mod indices;
 mod lookups;
+mod offset;
+mod offsets;
 mod orders;
 mod reckoned;
 mod renewal;
@@ -24,6 +27,7 @@ mod soundness;
 mod source_frames;
 mod stored;
 mod stream;
+mod temperature;
 mod twelve;
 mod unused;
 mod weekday;

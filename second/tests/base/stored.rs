@@ -43,7 +43,8 @@ fn every_refusal_is_there() {
 
 /// The fixed cases reach both ends of what document 01 allows, every command
 /// on a full board, the end of every month, every kind of wrong index, every sort
-/// of label that is looked for and every end of what request 6 reckons.
+/// of label that is looked for, every temperature offset and every end of what
+/// requests 6 and 9 reckon.
 #[test]
 fn every_end_is_there() {
     let cases = all().into_iter().map(|stored| stored.case);
@@ -63,18 +64,18 @@ fn writing_comes_first_and_the_whole_is_small() {
     let mut stream = Vec::new();
     write_stored(&mut stream, &CALLS).expect("memory takes it");
     println!("{} bytes", stream.len());
-    assert!(stream.len() < 3_000_000, "{}", stream.len());
+    assert!(stream.len() < 3_300_000, "{}", stream.len());
     let mut outputs = Vec::new();
     write_stored(&mut outputs, b"WFJ").expect("memory takes it");
     assert!(stream.starts_with(&outputs));
 }
 
-/// The calls that reckon with dates stand behind all others, which keep their
-/// places whatever is added.
+/// The calls that reckon with dates and with degrees stand behind all others,
+/// which keep their places whatever is added.
 #[test]
 fn reckoning_comes_last() {
     let cases = all();
-    let is_reckoning = |stored: &Stored| b"DYB".contains(&stored.case.call());
+    let is_reckoning = |stored: &Stored| b"DYBT".contains(&stored.case.call());
     let first = cases.iter().position(is_reckoning).expect("there are some");
     assert!(cases[first..].iter().all(is_reckoning));
     let mut stream = Vec::new();
@@ -100,6 +101,28 @@ fn examples_of_request_6() {
         if day.day == 1 || day_after(*day).day == 1 {
             assert!(asked.contains(day), "{day:?}");
         }
+    }
+}
+
+/// Request 9: every offset that a byte holds is handed to the call, at least with
+/// readings at both ends of their range and beyond them.
+#[test]
+fn examples_of_request_9() {
+    let cases: BTreeSet<(i8, i16)> = all()
+        .into_iter()
+        .filter_map(|stored| match stored.case {
+            Case::Temperature { offset, reading } => Some((offset, reading)),
+            _ => None,
+        })
+        .collect();
+    println!("{} pairs of offset and reading", cases.len());
+    for offset in i8::MIN..=i8::MAX {
+        for reading in [i16::MIN, -129, -128, 0, 127, 128, i16::MAX] {
+            assert!(cases.contains(&(offset, reading)), "{offset} {reading}");
+        }
+    }
+    for reading in -128..=127 {
+        assert!(cases.contains(&(-9, reading)) && cases.contains(&(9, reading)));
     }
 }
 

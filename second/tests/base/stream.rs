@@ -30,16 +30,34 @@ fn string(bytes: &[u8]) -> Vec<u8> {
     [&length.to_be_bytes(), bytes].concat()
 }
 
-/// The settings of a fresh board of 64 bytes but for its index.
+/// The settings of a fresh board of 64 bytes but for its index and its offset.
 const SETTINGS: [u8; 12] = [0, 0, 1, 1, 0, b'S', 0, 0, b'C', 0, 0, 64];
 /// An index in which all entries are these two bytes.
 fn index(entry: [u8; 2]) -> Vec<u8> {
     entry.repeat(95)
 }
 
-/// Settings of these twelve bytes with the index of a board without files.
+/// Settings of these twelve bytes with the index of a board without files and
+/// the offset 0.
 fn settings(first: &[u8]) -> Vec<u8> {
-    [first, &index([0xFF, 0xFF])].concat()
+    [first, &index([0xFF, 0xFF]), &[0]].concat()
+}
+
+/// A run in a stream.
+fn run_case(settings: &[u8], memory: &[u8], reply: &[u8], frame: &[u8]) -> Vec<u8> {
+    let strings = [settings, memory, reply, frame].map(string);
+    [b"R".to_vec(), strings.concat()].concat()
+}
+
+/// A frame whose one block is refused with 21.
+const UNKNOWN: &[u8] = b"\0\0\0\0\0\x01Z00\x02X\x04";
+
+/// What is printed of a run of that frame before the settings, by its number.
+fn printed_before(number: u8) -> &'static str {
+    match number {
+        0 => "0 0 1 1 21 0",
+        _ => "1 0 0 0 0 0",
+    }
 }
 
 #[test]
@@ -47,14 +65,14 @@ fn a_fresh_board() {
     let case = [b"NC".to_vec(), string(&[0xFF; 64])].concat();
     let zeros = "00".repeat(64);
     let none = "FFFF".repeat(95);
-    let line = format!("0 0 0 1 1 0 83 0 0 67 0 64 {none} {zeros}\n");
+    let line = format!("0 0 0 1 1 0 83 0 0 67 0 64 {none} 0 {zeros}\n");
     assert_eq!(lines(&case), line);
     let case = [b"NC".to_vec(), string(&[0xFF; 300])].concat();
     let zeros = "00".repeat(300);
-    let line = format!("0 0 0 1 1 0 83 0 0 67 0 300 {none} {zeros}\n");
+    let line = format!("0 0 0 1 1 0 83 0 0 67 0 300 {none} 0 {zeros}\n");
     assert_eq!(lines(&case), line);
     let case = [b"NZ".to_vec(), string(b"\xAB")].concat();
-    let zeros = format!("0 0 0 0 0 0 0 0 0 0 0 {}", "0000".repeat(95));
+    let zeros = format!("0 0 0 0 0 0 0 0 0 0 0 {} 0", "0000".repeat(95));
     assert_eq!(lines(&case), format!("10 {zeros} AB\n"));
     let case = [b"NC".to_vec(), string(b"")].concat();
     assert_eq!(lines(&case), format!("11 {zeros} -\n"));
@@ -63,14 +81,7 @@ fn a_fresh_board() {
 #[test]
 fn a_run() {
     let frame = b"\0\0\0\0\0\x01Z00\x02X\x03\x02F \x04";
-    let case = [
-        b"R".to_vec(),
-        string(&settings(&SETTINGS)),
-        string(&[0; 64]),
-        string(&[0xEE; 129]),
-        string(frame),
-    ]
-    .concat();
+    let case = run_case(&settings(&SETTINGS), &[0; 64], &[0xEE; 129], frame);
     let memory = "00".repeat(64);
     let nuls = "00".repeat(20);
     let reply = "01303030024520303030300330313241";
@@ -78,19 +89,13 @@ fn a_run() {
     let none = "FFFF".repeat(95);
     assert_eq!(
         lines(&case),
-        format!("0 1 1 1 21 37 0 0 1 1 0 83 0 0 67 0 64 {none} {memory} {nuls}{reply}04{rest}\n")
+        format!("0 1 1 1 21 37 0 0 1 1 0 83 0 0 67 0 64 {none} 0 {memory} {nuls}{reply}04{rest}\n")
     );
-    let case = [
-        b"R".to_vec(),
-        string(&settings(&[24, 1, 2, 3, 4, 5, 6, 7, 8, 9, 0x12, 0x34])),
-        string(b""),
-        string(b"\x01"),
-        string(frame),
-    ]
-    .concat();
+    let others = settings(&[24, 1, 2, 3, 4, 5, 6, 7, 8, 9, 0x12, 0x34]);
+    let case = run_case(&others, b"", b"\x01", frame);
     assert_eq!(
         lines(&case),
-        format!("1 0 0 0 0 0 24 1 2 3 4 5 6 7 8 9 4660 {none} - 01\n")
+        format!("1 0 0 0 0 0 24 1 2 3 4 5 6 7 8 9 4660 {none} 0 - 01\n")
     );
 }
 
@@ -119,24 +124,18 @@ fn indices() {
         (counted, 1),
         (index([0, 0]), 1),
     ] {
-        let case = [
-            b"R".to_vec(),
-            string(&[first.as_slice(), &index].concat()),
-            string(&memory),
-            string(&[0xEE; 332]),
-            string(b"\0\0\0\0\0\x01Z00\x02X\x04"),
-        ]
-        .concat();
-        let blocks = if number == 0 { "0 1 1 21" } else { "0 0 0 0" };
+        let settings = [first.as_slice(), &index, &[0]].concat();
+        let case = run_case(&settings, &memory, &[0xEE; 332], UNKNOWN);
+        let before = printed_before(number);
         let hex = |bytes: &[u8]| -> String {
             let digits = bytes.iter().map(|byte| format!("{byte:02X}"));
             digits.collect()
         };
-        let settings = format!("0 0 1 1 0 83 0 0 67 2 0 {}", hex(&index));
+        let settings = format!("0 0 1 1 0 83 0 0 67 2 0 {} 0", hex(&index));
         let (memory, reply) = (hex(&memory), "EE".repeat(332));
         assert_eq!(
             lines(&case),
-            format!("{number} {blocks} 0 {settings} {memory} {reply}\n")
+            format!("{before} {settings} {memory} {reply}\n")
         );
     }
 }
@@ -153,39 +152,46 @@ fn unused_amounts() {
         ([0x80, 0x00], 1, "32768"),
         ([0xFF, 0xFF], 1, "65535"),
     ] {
-        let case = [
-            b"R".to_vec(),
-            string(&settings(&[&SETTINGS[..10], &bytes].concat())),
-            string(&[0; 300]),
-            string(&[0xEE; 364]),
-            string(b"\0\0\0\0\0\x01Z00\x02X\x04"),
-        ]
-        .concat();
-        let blocks = if number == 0 { "0 1 1 21" } else { "0 0 0 0" };
+        let settings = settings(&[&SETTINGS[..10], &bytes].concat());
+        let case = run_case(&settings, &[0; 300], &[0xEE; 364], UNKNOWN);
+        let before = printed_before(number);
         let (memory, reply) = ("00".repeat(300), "EE".repeat(364));
         let none = "FFFF".repeat(95);
-        let settings = format!("0 0 1 1 0 83 0 0 67 0 {amount} {none}");
+        let settings = format!("0 0 1 1 0 83 0 0 67 0 {amount} {none} 0");
         assert_eq!(
             lines(&case),
-            format!("{number} {blocks} 0 {settings} {memory} {reply}\n")
+            format!("{before} {settings} {memory} {reply}\n")
         );
     }
 }
 
-/// "settings of another length": the ten alone too, and those without an index.
+/// "the offset, one byte, signed", stands behind the index and is printed in
+/// decimal, "with "-" below 0".
+#[test]
+fn offsets() {
+    let none = "FFFF".repeat(95);
+    let (memory, reply) = ("00".repeat(64), "EE".repeat(128));
+    for (byte, printed) in (0..=127).zip(0..=127).chain((128..=255).zip(-128..=-1)) {
+        let mut settings = settings(&SETTINGS);
+        settings[202] = byte;
+        let case = run_case(&settings, &[0; 64], &[0xEE; 128], UNKNOWN);
+        let before = printed_before(u8::from(!(-9..=9).contains(&printed)));
+        let settings = format!("0 0 1 1 0 83 0 0 67 0 64 {none} {printed}");
+        assert_eq!(
+            lines(&case),
+            format!("{before} {settings} {memory} {reply}\n")
+        );
+    }
+}
+
+/// "settings of another length": the ten alone too, and those without an index or
+/// without an offset.
 #[test]
 fn settings_of_another_length() {
-    for length in (0..=400).filter(|&length| length != 202) {
+    for length in (0..=400).filter(|&length| length != 203) {
         let mut settings = settings(&SETTINGS);
         settings.resize(length, 0xFF);
-        let case = [
-            b"R".to_vec(),
-            string(&settings),
-            string(&[0; 64]),
-            string(&[0; 128]),
-            string(b""),
-        ]
-        .concat();
+        let case = run_case(&settings, &[0; 64], &[0; 128], b"");
         let expected = ("bad case\n".to_string(), Ended::BadCase);
         assert_eq!(replayed(&case), expected, "{length}");
     }
@@ -259,7 +265,25 @@ fn days() {
     assert_eq!(line_of(first, none), "30 0\n");
 }
 
-/// A case of request 6 that ends too early, wherever it ends; one byte more
+/// Offset and reading in two's complement; sums "are printed in decimal, with "-"
+/// below 0".
+#[test]
+fn a_temperature() {
+    assert_eq!(lines(b"T\xFE\x00\x19"), "0 23\n");
+    assert_eq!(lines(b"T\x00\x00\x00"), "0 0\n");
+    assert_eq!(lines(b"T\x09\x00\x7F"), "0 136\n");
+    assert_eq!(lines(b"T\xF7\xFF\x80"), "0 -137\n");
+    assert_eq!(lines(b"T\xFF\x00\x00"), "0 -1\n");
+    assert_eq!(lines(b"T\x0A\x00\x00"), "1 0\n");
+    assert_eq!(lines(b"T\xF6\x00\x00"), "1 0\n");
+    assert_eq!(lines(b"T\x00\x00\x80"), "33 0\n");
+    assert_eq!(lines(b"T\x00\xFF\x7F"), "33 0\n");
+    assert_eq!(lines(b"T\x00\x7F\x00"), "33 0\n");
+    assert_eq!(lines(b"T\x00\x80\x00"), "33 0\n");
+    assert_eq!(lines(b"T\x80\x80\x00"), "1 0\n");
+}
+
+/// A case of request 6 or 9 that ends too early, wherever it ends; one byte more
 /// begins the next case.
 #[test]
 fn reckoning_cut_short() {
@@ -270,6 +294,7 @@ fn reckoning_cut_short() {
         (renewal, "0 2001 2 28\n"),
         (weekday, "0 7\n"),
         (days, "0 36524\n"),
+        (b"T\xFE\x00\x19", "0 23\n"),
     ] {
         for length in 1..case.len() {
             let stream = [case, &case[..length]].concat();
@@ -289,14 +314,10 @@ fn bad_cases_end_the_stream() {
     let good_line = "15 0 -\n";
     assert_eq!(lines(b""), "");
     assert_eq!(lines(&good), good_line);
-    let without_index = [
-        b"R".to_vec(),
-        string(&SETTINGS),
-        string(b""),
-        string(b""),
-        string(b""),
-    ]
-    .concat();
+    let without_index = run_case(&SETTINGS, b"", b"", b"");
+    let mut without_offset = settings(&SETTINGS);
+    without_offset.pop();
+    let without_offset = run_case(&without_offset, b"", b"", b"");
     for bad in [
         b"X".as_slice(),
         b"n",
@@ -310,6 +331,7 @@ fn bad_cases_end_the_stream() {
         b"W\x01\0\0A\0\0",
         b"J\x01\0\0\0\0",
         &without_index,
+        &without_offset,
     ] {
         let stream = [&good, bad].concat();
         let expected = (format!("{good_line}bad case\n"), Ended::BadCase);
@@ -363,6 +385,7 @@ fn what_is_encoded_is_read_again() {
             settings: Settings {
                 unused: 0x0B0C,
                 index: Index::empty().with(b' ', 0x0D0E).with(b'~', 0x0F10),
+                offset: -0x11,
                 ..Settings::default().with_fields([1, 2, 3, 4, 5, 6, 7, 8, 9, 10])
             },
             memory: text(256),
@@ -395,6 +418,10 @@ fn what_is_encoded_is_read_again() {
         Case::Days {
             first: FIRST_DAY,
             second: date(65_535, 0, 255),
+        },
+        Case::Temperature {
+            offset: -0x12,
+            reading: -0x1314,
         },
     ] {
         let bytes = case.encode();

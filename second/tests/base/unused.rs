@@ -3,21 +3,19 @@
 
 use crate::amounts::walked;
 use crate::common::*;
-use second::cases::any_case;
-use second::cases::boards::{records, sound, used};
+use second::cases::boards::{records, used};
 use second::cases::dice::Dice;
 use second::commands::Board;
 use second::files::MOST_FILES;
 use second::hex::word_digits;
-use second::record::Record;
 use second::right_amount::right_amount;
 use second::settings::Settings;
 use second::soundness::is_sound;
 use second::special::get;
 use second::stored::index::all as stored_indices;
+use second::stored::offsets::all as stored_offsets;
 use second::stored::unused::all as stored_amounts;
-use second::stored::{all, Stored};
-use second::stream::{Answer, Case};
+use second::stream::Case;
 use second::unused::unused;
 
 /// The sheet's two files: they take 16 + 11 and 8 + 11 bytes.
@@ -146,14 +144,9 @@ fn wrong_amounts_are_1() {
     }
 }
 
-/// A wrong amount is looked at before anything of the frame or of the buffer.
 #[test]
 fn number_1_comes_first() {
-    let wrong = two_files().with_amount(128);
-    for frame in [b"".as_slice(), b"X", b"_4", b"\0\0\0\0\0\x01Z00\x02E'M"] {
-        assert_eq!(run_with(&wrong, frame, 0).ran.number, 1);
-        assert_eq!(run_on(&wrong, frame).ran.number, 1);
-    }
+    assert_1_comes_first(&two_files().with_amount(128));
 }
 
 /// Where the files take more than there is no amount is right, not even one
@@ -260,30 +253,7 @@ fn many_records() {
 fn other_commands_leave_it() {
     let kit = two_files();
     assert_eq!(kit.settings.unused, 82);
-    for block in [
-        b"AAHELLO".as_slice(),
-        b"AA",
-        b"AA0123456789ABCDEF",
-        b"AA0123456789ABCDEFG",
-        b"AXHI",
-        b"GSHELLO",
-        b"GS",
-        b"GS012345678",
-        b"GA",
-        b"BA",
-        b"HS",
-        b"E 2359",
-        b"E!00",
-        b"E'M",
-        b"E;123199",
-        b"E7FF",
-        b"E#",
-        b"E#1234",
-        b"F$",
-        b"F#",
-        b"F#0",
-        b"X",
-    ] {
+    for block in OTHER_COMMANDS {
         let after = run_on(&kit, &plain(b"Z00", &[block]));
         assert_eq!(after.ran.number, 0);
         assert_eq!(after.ran.settings.unused, 82, "{block:?}");
@@ -295,69 +265,45 @@ fn other_commands_leave_it() {
 /// replies at their end.
 #[test]
 fn it_stays_true() {
-    let mut dice = Dice::new(33);
-    let (mut runs, mut moved, mut told) = (0, 0, 0);
-    for _ in 0..3_000 {
-        let case = any_case(&mut dice, b"R").expect("a call to choose");
-        let Case::Run { settings, .. } = &case else {
-            panic!("{case:?}");
-        };
-        let before = *settings;
-        let Answer::Run { ran, memory, reply } = case.answer() else {
-            panic!("a run gives its answer");
-        };
-        if ran.number != 0 {
-            assert_eq!(ran.settings, before);
-            continue;
-        }
-        let right = walked(&memory, ran.settings.files);
-        assert_eq!(Some(ran.settings.unused), right);
-        assert!(is_sound(ran.settings, &memory));
-        runs += 1;
-        moved += usize::from(ran.settings.unused != before.unused);
-        if is_pool(&reply[..ran.reply_length]) {
-            let text = format!("{:04X},{:04X}", memory.len(), ran.settings.unused);
-            assert_eq!(pool_of(&reply[..ran.reply_length]), text);
-            told += 1;
-        }
+    let mut told = 0;
+    let look = |after: &After| {
+        let Kit { settings, memory } = &after.kit;
+        assert_eq!(Some(settings.unused), walked(memory, settings.files));
+        assert!(is_sound(*settings, memory));
+        told += usize::from(tells_the_amount(after));
+    };
+    let (done, moved) = random_runs((33, 3_000), |settings| settings.unused, look);
+    println!("{told} told the amount");
+    assert!(done > 1_500 && moved > 300 && told > 50);
+}
+
+/// Whether a reply is one to "#", in which case it tells the amount that stands
+/// in the settings.
+fn tells_the_amount(after: &After) -> bool {
+    let tells = is_pool(&after.reply);
+    if tells {
+        let Kit { settings, memory } = &after.kit;
+        let text = format!("{:04X},{:04X}", memory.len(), settings.unused);
+        assert_eq!(pool_of(&after.reply), text);
     }
-    println!("{runs} runs, {moved} moved the amount, {told} told it");
-    assert!(runs > 1_500 && moved > 300 && told > 50);
+    tells
 }
 
 /// The same over frames that follow each other on one board: random lists, some
 /// of them with no room, and messages between them.
 #[test]
 fn it_stays_true_from_frame_to_frame() {
-    let mut dice = Dice::new(34);
-    let (mut done, mut refused) = (0, 0);
-    for _ in 0..60 {
-        let board = sound(&mut dice);
-        let mut kit = Kit {
-            settings: board.settings,
-            memory: board.memory,
-        };
-        for _ in 0..20 {
-            let longer = kit.memory.len() + dice.one_of([0, 0, 1, 11, 100]);
-            let list: Vec<u8> = records(&mut dice, longer)
-                .into_iter()
-                .flat_map(Record::to_bytes)
-                .collect();
-            let block = [b"E$".as_slice(), &list].concat();
-            let after = run_on(&kit, &plain(b"Z00", &[&block, b"F#"]));
-            assert_eq!(after.ran.number, 0);
-            done += after.ran.done - 1;
-            refused += after.ran.refused;
-            let message = [b'A', dice.byte(b'A', b'F'), b'x'];
-            kit = after.kit.after(&[&message]);
-            let right = walked(&kit.memory, kit.settings.files).expect("a sound board");
-            assert_eq!(kit.settings.unused, right);
-            let text = format!("{:04X},{right:04X}", kit.memory.len());
-            assert_eq!(pool_of(&after.reply), text);
-            assert_eq!(pool(&kit), text);
-        }
-    }
-    println!("{done} lists done, {refused} refused");
+    let (done, refused) = random_lists(34, (60, 20), |dice, after| {
+        assert!(tells_the_amount(&after));
+        let message = [b'A', dice.byte(b'A', b'F'), b'x'];
+        let kit = after.kit.after(&[&message]);
+        let right = walked(&kit.memory, kit.settings.files).expect("a sound board");
+        assert_eq!(kit.settings.unused, right);
+        let text = format!("{:04X},{right:04X}", kit.memory.len());
+        assert_eq!(pool_of(&after.reply), text);
+        assert_eq!(pool(&kit), text);
+        kit
+    });
     assert!(done > 500 && refused > 100);
 }
 
@@ -407,7 +353,8 @@ fn right_amounts() {
 }
 
 /// Every fixed run hands in an amount that is right, where one is, but for those
-/// of request 3 that are meant to be wrong and for two of request 7 beside them;
+/// of request 3 that are meant to be wrong and for a few of requests 7 and 9 that
+/// are wrong in two things;
 /// and every amount that comes back from a run that was done is right, in the
 /// settings and in the reply.
 #[test]
@@ -415,38 +362,27 @@ fn fixed_cases() {
     let own: Vec<Case> = stored_amounts()
         .into_iter()
         .chain(stored_indices())
+        .chain(stored_offsets())
         .map(|own| own.case)
         .collect();
     let (mut right, mut wrong, mut none, mut told) = (0, 0, 0, 0);
-    for Stored { case, number, .. } in all() {
-        let Case::Run {
-            settings, memory, ..
-        } = &case
-        else {
-            continue;
-        };
-        match walked(memory, settings.files) {
+    for (stored, before, after) in fixed_runs() {
+        let Kit { settings, memory } = before;
+        match walked(&memory, settings.files) {
             Some(amount) if amount == settings.unused => right += 1,
             Some(_) => {
-                assert!(number == 1 && own.contains(&case));
+                assert!(stored.number == 1 && own.contains(&stored.case));
                 wrong += 1;
             }
             None => {
-                assert_eq!(number, 1);
+                assert_eq!(stored.number, 1);
                 none += 1;
             }
         }
-        let Answer::Run { ran, memory, reply } = case.answer() else {
-            panic!("a run gives its answer");
-        };
-        if ran.number == 0 {
-            let left = walked(&memory, ran.settings.files).expect("a sound board");
-            assert_eq!(ran.settings.unused, left);
-            if is_pool(&reply[..ran.reply_length]) {
-                let text = format!("{:04X},{left:04X}", memory.len());
-                assert_eq!(pool_of(&reply[..ran.reply_length]), text);
-                told += 1;
-            }
+        if after.ran.number == 0 {
+            let left = walked(&after.kit.memory, after.kit.settings.files);
+            assert_eq!(Some(after.kit.settings.unused), left);
+            told += usize::from(tells_the_amount(&after));
         }
     }
     println!("{right} right, {wrong} wrong, {none} without a right one, {told} told");

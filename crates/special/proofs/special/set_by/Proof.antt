@@ -18,6 +18,9 @@ set-date-requires c κs = search labelled
 set-address-requires : tie.Need-set-address-requires
 set-address-requires c κs = search labelled
 
+set-offset-requires : tie.Need-set-offset-requires
+set-offset-requires c κs = search labelled
+
 quiet-requires : tie.Need-quiet-requires
 quiet-requires c κs = search labelled
 
@@ -42,7 +45,11 @@ unfolding setBy
 returns-5 c = search labelled
 
 returns-6 : tie.Need-returns-6
+unfolding setBy
 returns-6 c = search labelled
+
+returns-7 : tie.Need-returns-7
+returns-7 c = search labelled
 
 pub set-by-spec : {M : Type 1} → statement M
 set-by-spec =
@@ -53,10 +60,12 @@ set-by-spec =
     set-format-requires
     set-date-requires
     set-address-requires
+    set-offset-requires
     quiet-requires
     returns
     returns-2
     returns-3
     returns-4
     returns-5
-    returns-6)
+    returns-6
+    returns-7)

@@ -1,0 +1,3 @@
+-- The temperature offset, and readings corrected by it.
+pub mod Offset
+pub mod Correcting
