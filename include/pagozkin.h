@@ -20,7 +20,7 @@ extern "C" {
 
 /* The version of header and library: a changed struct, number or call changes the first part, an added one the second part;
  * where only what a call answers has changed, the third. */
-#define PAGOZKIN_VERSION_MAJOR 4
+#define PAGOZKIN_VERSION_MAJOR 5
 #define PAGOZKIN_VERSION_MINOR 0
 #define PAGOZKIN_VERSION_PATCH 0
 
@@ -54,6 +54,15 @@ extern "C" {
 #define PAGOZKIN_MOST_OFFSET 9        /* degrees of a temperature offset, warmer or colder: "-9 to 9" */
 #define PAGOZKIN_LEAST_READING (-128) /* degrees that are read: "a reading from -128 to 127" */
 #define PAGOZKIN_MOST_READING 127     /* the same */
+
+/* The bits of the serial error status register, of which bit 7 is "Always 0" and bit 6 "Always 1". */
+#define PAGOZKIN_ERROR_PARITY 0x01   /* "Parity error": from the port driver */
+#define PAGOZKIN_ERROR_FRAMING 0x02  /* "Bit framing error": from the port driver */
+#define PAGOZKIN_ERROR_TIME_OUT 0x04 /* "Serial timeout": from the port driver */
+#define PAGOZKIN_ERROR_OVERFLOW 0x08 /* "Insufficient serial buffer space": no call sets it */
+#define PAGOZKIN_ERROR_CHECKSUM 0x10 /* "Serial Checksum Error": a block was refused with 20 */
+#define PAGOZKIN_ERROR_ILLEGAL 0x20  /* "Illegal Command Code, File Label": a block was refused with 21 or 23 */
+#define PAGOZKIN_NO_ERRORS 0x40      /* a cleared register: "default value (40H or 01000000B)" */
 
 /* The room that a read is lent: bytes that a printable frame stands for, at most. */
 #define PAGOZKIN_ROOM PAGOZKIN_MOST_TRANSLATED
@@ -127,8 +136,9 @@ enum {
  * too: ask pagozkin_is_sound at the start, and write a date that exists here. Settings of any version 1 have no unused amount: write
  * memory's length less, for each file, PAGOZKIN_RECORD and its SIZE. Settings of versions 1 and 2 have no places: write
  * PAGOZKIN_NOWHERE to all of them, and then for each file, at its label less PAGOZKIN_FIRST_LABEL, where its record begins in memory.
- * Settings of versions 1 to 3 have no temperature offset: write 0, or an offset from -9 to 9.
- * From then on the library keeps amount and places true: leave them alone. A byte of no meaning stands behind the last field. */
+ * Settings of versions 1 to 3 have no temperature offset: write 0, or an offset from -9 to 9. Settings of versions 1 to 4 have no
+ * serial error status register (version 4 has a byte of no meaning in its place): write PAGOZKIN_NO_ERRORS.
+ * From then on the library keeps amount and places true: leave them alone, and the register to pagozkin_port_errors. */
 typedef struct pagozkin_settings {
     uint8_t hour;    /* 0 to 23 */
     uint8_t minute;  /* 0 to 59 */
@@ -143,7 +153,8 @@ typedef struct pagozkin_settings {
     uint16_t unused; /* "the memory length less, for each file, its record and its counted size": 0 to 32,768; else 1 */
     /* "for each label 20H to 7EH, where its record begins", or PAGOZKIN_NOWHERE; else 1 */
     uint16_t places[PAGOZKIN_PLACES];
-    int8_t offset; /* temperature offset, set by E "T": "-9 to 9"; else 1 */
+    int8_t offset;  /* temperature offset, set by E "T": "-9 to 9"; else 1 */
+    uint8_t errors; /* serial error status register, cleared by E "4" and, once it is told, by F "*": 40H to 7FH; else 1 */
 } pagozkin_settings;
 
 /* "A run returns a number, blocks done, blocks refused, .." */
@@ -167,6 +178,12 @@ typedef struct pagozkin_made {
     uint8_t number;             /* 0, 10 or 11 */
     pagozkin_settings settings; /* "from 10 or 11 all zero" */
 } pagozkin_made;
+
+/* The outcome of noting what the port driver saw. */
+typedef struct pagozkin_driven {
+    uint8_t number;             /* 0, or 1 with the settings as they were */
+    pagozkin_settings settings; /* the next settings: their register alone is another */
+} pagozkin_driven;
 
 /* The outcome of writing, re-forming or joining. */
 typedef struct pagozkin_written {
@@ -245,6 +262,7 @@ typedef struct pagozkin_corrected {
 #define PAGOZKIN_STACK_WEEKDAY 3072
 #define PAGOZKIN_STACK_DAYS_BETWEEN 3072
 #define PAGOZKIN_STACK_ADD_OFFSET 512
+#define PAGOZKIN_STACK_PORT_ERRORS 768
 
 /* "A fresh board has 00:00, 01 01 00, format S, speaker off, address 00, no files, memory all zero." 0, 10 or 11.
  * C must see to: memory valid for memory_len bytes. */
@@ -300,6 +318,12 @@ pagozkin_days_apart pagozkin_days_between(pagozkin_date first, pagozkin_date sec
  * after a run that was not answered with 1 is -9 to 9; reading is what the sensor says. The sum of a good pair is always answered,
  * also where a byte would not hold it: show sum, and not a part of it. */
 pagozkin_corrected pagozkin_add_offset(int8_t offset, int16_t reading) PAGOZKIN_MUST_USE;
+
+/* "Parity, framing and time-out bits come from the port driver through a call, which ignores other bits.": 0, or 1 where the
+ * register's fixed bits are wrong. bits are PAGOZKIN_ERROR_PARITY, .._FRAMING and .._TIME_OUT, any of them together; one that is not
+ * there stays as it was. Nothing else of the settings is looked at. Between runs, not while one runs: the settings that a run answers
+ * are made from those which it was handed, so that bits set meanwhile would be lost. */
+pagozkin_driven pagozkin_port_errors(pagozkin_settings settings, uint8_t bits) PAGOZKIN_MUST_USE;
 
 #ifdef __cplusplus
 }

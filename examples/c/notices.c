@@ -1,5 +1,5 @@
 /* Two files are configured on a fresh board, two notices joined into one transmission and run, one is read back, the unused memory
- * is told, and the sign's thermometer is set right.
+ * is told, the sign's thermometer is set right, and it is asked which kind of fault it saw.
  * README.md says how it is built and run; notices.stdout is what it prints. */
 #include <pagozkin.h>
 #include <stdio.h>
@@ -83,5 +83,15 @@ int main(void)
     run(first, write_frame('E', "T-2", first));
     pagozkin_corrected c = pagozkin_add_offset(settings.offset, 21);
     printf("temperature: %u, reads 21, shows %d\n", c.number, c.sum);
+
+    /* A technician asks which kind of fault it was: a notice for a file that is not there, and what the port's driver saw. The reply
+     * has the register, and clears it. */
+    run(first, write_frame('A', "CLEVEL 3 IS FULL", first));
+    pagozkin_driven d = pagozkin_port_errors(settings, PAGOZKIN_ERROR_FRAMING);
+    settings = d.settings;
+    printf("port errors: %u, register %02X\n", d.number, settings.errors);
+    length = run(first, write_frame('F', "*", first));
+    print_bytes(reply, length);
+    printf("register %02X\n", settings.errors);
     return 0;
 }

@@ -39,6 +39,8 @@ pub const TIME_FORMAT: u8 = b'\'';
 pub const SERIAL_ADDRESS: u8 = b'7';
 pub const DATE: u8 = b';';
 pub const TEMPERATURE_OFFSET: u8 = b'T';
+pub const CLEAR_REGISTER: u8 = b'4';
+pub const READ_REGISTER: u8 = b'*';
 
 /// The two signs of a temperature offset.
 pub const PLUS: u8 = b'+';

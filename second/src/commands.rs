@@ -16,9 +16,19 @@ pub struct Board<'a> {
     pub memory: &'a mut [u8],
 }
 
-/// Runs one block: its reply where it is a read. "A block: 20 to 27
-/// ascending". A refused block leaves the board as it was.
+/// Runs one block: its reply where it is a read. Request 10: "A refused block now
+/// changes nothing but this register".
 pub fn run_block(board: &mut Board<'_>, block: &Block<'_>) -> Result<Option<Vec<u8>>, Number> {
+    let outcome = do_block(board, block);
+    if let Err(number) = outcome {
+        board.settings = board.settings.with_refusal(number);
+    }
+    outcome
+}
+
+/// Does what the block asks for, or tells why not and leaves the board as it was.
+/// "A block: 20 to 27 ascending".
+fn do_block(board: &mut Board<'_>, block: &Block<'_>) -> Result<Option<Vec<u8>>, Number> {
     check_sum(block)?;
     let data = block.data;
     match block.command {

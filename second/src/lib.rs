@@ -1,5 +1,5 @@
 //! A second implementation of the sign board of document 01 and of requests 1,
-//! 3, 6, 7 and 9 of document 02, written from these documents alone, to be
+//! 3, 6, 7, 9 and 10 of document 02, written from these documents alone, to be
 //! compared case by case with another one.
 //!
 //! Days and months, by themselves: [`dates`], [`renewal`], [`weekday`],
@@ -7,8 +7,8 @@
 //! The frame layer: [`translation`], [`lead`], [`header`], [`body`], [`sum`],
 //! [`frame`], [`forms`], [`writing`], [`reforming`], [`joining`].
 //! The sign layer: [`settings`], [`record`], [`files`], [`unused`], [`index`],
-//! [`soundness`], [`configuration`], [`special`], [`commands`], [`reply`],
-//! [`run`], [`fresh`].
+//! [`register`], [`soundness`], [`configuration`], [`special`], [`commands`],
+//! [`reply`], [`run`], [`fresh`], [`port`].
 //! The comparison: [`stream`], [`cases`], [`source`], [`stored`],
 //! [`right_amount`], [`right_index`], [`twelve`].
 #![forbid(unsafe_code)]
@@ -30,8 +30,10 @@ pub mod index;
 pub mod joining;
 pub mod lead;
 pub mod numbers;
+pub mod port;
 pub mod record;
 pub mod reforming;
+pub mod register;
 pub mod renewal;
 pub mod reply;
 pub mod right_amount;

@@ -11,10 +11,10 @@ use second::stream::{replay, Ended, CALLS};
 use second::twelve::write_twelve;
 
 const USAGE: &str = "\
-usage: second replay                                         cases in, lines out
-       second cases --seed S --count N [--calls NRWFJDYBT]   random cases
-       second stored [--calls NRWFJDYBT]                     the fixed cases
-       second twelve                                         the twelve notices
+usage: second replay                                          cases in, lines out
+       second cases --seed S --count N [--calls NRWFJDYBTP]   random cases
+       second stored [--calls NRWFJDYBTP]                     the fixed cases
+       second twelve                                          the twelve notices
 ";
 
 /// What the command line asks for.

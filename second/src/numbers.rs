@@ -5,7 +5,8 @@ pub type Number = u8;
 /// "frame run, written, re-formed or joined; fresh board made"
 pub const DONE: Number = 0;
 /// "board not sound"; request 9: "1 for an offset outside -9 to 9, from the call
-/// too"
+/// too"; request 10: "1 for a register whose fixed bits are not as the table has
+/// them"
 pub const NOT_SOUND: Number = 1;
 /// "reply buffer shorter than memory plus 64"
 pub const SHORT_REPLY_BUFFER: Number = 2;

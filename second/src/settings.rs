@@ -1,12 +1,14 @@
 //! "Settings travel as one record, handed in and handed back: time, date, time
 //! format, speaker, serial address, own type, number of files." Request 3: "Keep
-//! the unused amount in the settings record". Request 7 adds the index and request
-//! 9 the temperature offset.
+//! the unused amount in the settings record". Request 7 adds the index, request 9
+//! the temperature offset and request 10 the serial error status register.
 
 use crate::bytes::{MINUS, PLUS};
 use crate::dates::{exists, FIRST_YEAR};
 use crate::hex::{byte_value, frame_digit};
 use crate::index::Index;
+use crate::numbers::Number;
+use crate::register::{after_port, after_refusal, CLEARED};
 
 pub const STANDARD_FORMAT: u8 = b'S';
 pub const MILITARY_FORMAT: u8 = b'M';
@@ -17,8 +19,8 @@ pub const SPEAKER_ON: u8 = 1;
 const ON_TEXT: [u8; 2] = *b"00";
 const OFF_TEXT: [u8; 2] = *b"FF";
 
-/// How many fields of one byte without a sign the record has: all but the unused
-/// amount, the index and the temperature offset.
+/// How many fields document 01 gives the record, each of one byte: all but the
+/// unused amount, the index, the temperature offset and the register.
 pub const FIELDS: usize = 10;
 
 /// The record, a number to a field, so that a field can be out of range.
@@ -37,12 +39,14 @@ pub struct Settings {
     pub unused: u16,
     pub index: Index,
     pub offset: i8,
+    pub register: u8,
 }
 
 impl Settings {
     /// "A fresh board has 00:00, 01 01 00, format S, speaker off, address 00,
     /// no files", so that the index has no place, and so much unused memory.
-    /// Request 9: "Fresh boards hold 0."
+    /// Request 9: "Fresh boards hold 0." Request 10: "A fresh register is a cleared
+    /// one."
     pub fn fresh(own_type: u8, unused: u16) -> Settings {
         Settings {
             hour: 0,
@@ -58,10 +62,11 @@ impl Settings {
             unused,
             index: Index::empty(),
             offset: 0,
+            register: CLEARED,
         }
     }
 
-    /// The fields of one byte without a sign in the record's order.
+    /// The fields of document 01 in the record's order.
     pub fn fields(self) -> [u8; FIELDS] {
         [
             self.hour,
@@ -77,7 +82,7 @@ impl Settings {
         ]
     }
 
-    /// The record with these fields of one byte without a sign.
+    /// The record with these fields of document 01.
     pub fn with_fields(self, fields: [u8; FIELDS]) -> Settings {
         let [hour, minute, month, day, year, format, speaker, address, own_type, files] = fields;
         Settings {
@@ -162,6 +167,32 @@ impl Settings {
         Some(Settings { offset, ..self })
     }
 
+    /// "used to clear the Serial Error Status Register to its default value of
+    /// 40H".
+    pub fn with_cleared_register(self) -> Settings {
+        Settings {
+            register: CLEARED,
+            ..self
+        }
+    }
+
+    /// The settings after a block was refused with this number. Request 10: "A
+    /// refused block now changes nothing but this register".
+    pub fn with_refusal(self, number: Number) -> Settings {
+        Settings {
+            register: after_refusal(self.register, number),
+            ..self
+        }
+    }
+
+    /// The settings after the port driver brought these bits.
+    pub fn with_port_errors(self, bits: u8) -> Settings {
+        Settings {
+            register: after_port(self.register, bits),
+            ..self
+        }
+    }
+
     /// The time in the layout "HhMm".
     pub fn time_text(self) -> Vec<u8> {
         decimal_text(&[self.hour, self.minute])
@@ -183,6 +214,11 @@ impl Settings {
     /// The time format in the layout of "'".
     pub fn format_text(self) -> Vec<u8> {
         vec![self.format]
+    }
+
+    /// The register as Table 14 has it: "one bitmapped ASCII character".
+    pub fn register_text(self) -> Vec<u8> {
+        vec![self.register]
     }
 }
 

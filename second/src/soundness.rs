@@ -1,13 +1,15 @@
 //! "A board is sound when all this holds and time, date, speaker, format, type
 //! are in range. Any address 00 to FF is in range." Request 3: "1 when the stored
 //! amount is wrong." Request 7: "1 when it is wrong." Request 9: "1 for an offset
-//! outside -9 to 9".
+//! outside -9 to 9". Request 10: "1 for a register whose fixed bits are not as the
+//! table has them."
 
 use crate::bytes::{LOWEST_DATA, NUL};
 use crate::files::{walk, File, MOST_FILES};
 use crate::header::is_own_type;
 use crate::index::Begin;
 use crate::record::Record;
+use crate::register::is_register;
 use crate::settings::{is_date, is_format, is_speaker, is_time, Settings};
 use crate::temperature::is_offset;
 use crate::unused::unused;
@@ -29,7 +31,7 @@ pub fn is_memory_length(length: usize) -> bool {
 }
 
 /// "time, date, speaker, format, type are in range", a date being one that
-/// exists, and the offset too; "It holds 0 to 64 files".
+/// exists, and the offset and the register too; "It holds 0 to 64 files".
 fn settings_are_in_range(settings: Settings) -> bool {
     is_time(settings.hour, settings.minute)
         && is_date(settings.month, settings.day, settings.year)
@@ -38,6 +40,7 @@ fn settings_are_in_range(settings: Settings) -> bool {
         && is_own_type(settings.own_type)
         && usize::from(settings.files) <= MOST_FILES
         && is_offset(settings.offset)
+        && is_register(settings.register)
 }
 
 /// "in order without gaps"; "Memory after the last file is 00H."; the stored

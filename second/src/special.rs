@@ -1,8 +1,8 @@
 //! The special functions: "E" sets them, "F" reads them.
 
 use crate::bytes::{
-    COMMA, CONFIGURATION, DATE, POOL, SERIAL_ADDRESS, SPEAKER, TEMPERATURE_OFFSET, TIME,
-    TIME_FORMAT, WRITE_SPECIAL,
+    CLEAR_REGISTER, COMMA, CONFIGURATION, DATE, POOL, READ_REGISTER, SERIAL_ADDRESS, SPEAKER,
+    TEMPERATURE_OFFSET, TIME, TIME_FORMAT, WRITE_SPECIAL,
 };
 use crate::commands::Board;
 use crate::configuration::{configure, Configured};
@@ -24,6 +24,10 @@ pub fn set(board: &mut Board<'_>, data: &[u8]) -> Result<(), Number> {
         DATE => settings.with_date(rest).ok_or(MALFORMED)?,
         SERIAL_ADDRESS => settings.with_address(rest).ok_or(MALFORMED)?,
         TEMPERATURE_OFFSET => settings.with_offset(rest).ok_or(MALFORMED)?,
+        CLEAR_REGISTER => {
+            check_no_data(rest)?;
+            settings.with_cleared_register()
+        }
         CONFIGURATION => {
             let Configured {
                 files,
@@ -44,8 +48,9 @@ pub fn set(board: &mut Board<'_>, data: &[u8]) -> Result<(), Number> {
 
 /// "F: labels 20H, "!", "'", ";", "$" and "#", without data. Replies use the
 /// layouts above". Request 9 asks for no reading of the offset, so "T" is none of
-/// them.
-pub fn get(board: &Board<'_>, data: &[u8]) -> Result<Vec<u8>, Number> {
+/// them. Request 10 adds "*", which replies with the register as it was and then
+/// clears it.
+pub fn get(board: &mut Board<'_>, data: &[u8]) -> Result<Vec<u8>, Number> {
     let (&label, rest) = data.split_first().ok_or(MALFORMED)?;
     let settings = board.settings;
     let text = match label {
@@ -55,12 +60,23 @@ pub fn get(board: &Board<'_>, data: &[u8]) -> Result<Vec<u8>, Number> {
         DATE => settings.date_text(),
         CONFIGURATION => records_text(board.memory, settings.files),
         POOL => pool_text(board),
+        READ_REGISTER => settings.register_text(),
         _ => return Err(UNKNOWN),
     };
-    if !rest.is_empty() {
-        return Err(MALFORMED);
+    check_no_data(rest)?;
+    if label == READ_REGISTER {
+        board.settings = settings.with_cleared_register();
     }
     Ok(reply(WRITE_SPECIAL, label, &text))
+}
+
+/// "without data". Request 10: "22 for data in excess".
+fn check_no_data(rest: &[u8]) -> Result<(), Number> {
+    if rest.is_empty() {
+        Ok(())
+    } else {
+        Err(MALFORMED)
+    }
 }
 
 /// ""#" gives POOL,pool, total and unused, four hex digits each." Request 3: the

@@ -9,6 +9,7 @@ use crate::fresh::{fresh, Made};
 use crate::hex::byte_digits;
 use crate::index::{Index, LABELS};
 use crate::joining::join;
+use crate::port::{port_errors, Noted};
 use crate::reforming::reform;
 use crate::renewal::{renewal, Renewed};
 use crate::run::{run, Ran};
@@ -26,8 +27,9 @@ pub const RENEWAL_CALL: u8 = b'D';
 pub const WEEKDAY_CALL: u8 = b'Y';
 pub const DAYS_CALL: u8 = b'B';
 pub const TEMPERATURE_CALL: u8 = b'T';
+pub const PORT_CALL: u8 = b'P';
 /// All call bytes.
-pub const CALLS: [u8; 9] = [
+pub const CALLS: [u8; 10] = [
     FRESH_CALL,
     RUN_CALL,
     WRITE_CALL,
@@ -37,6 +39,7 @@ pub const CALLS: [u8; 9] = [
     WEEKDAY_CALL,
     DAYS_CALL,
     TEMPERATURE_CALL,
+    PORT_CALL,
 ];
 
 /// The line for a case that cannot be read.
@@ -47,8 +50,8 @@ const BAD_CASE: &[u8] = b"bad case\n";
 const INDEX_LENGTH: usize = 2 * LABELS;
 
 /// The bytes of a settings string: those of one byte a field, then the unused
-/// amount in two, then the index, then the offset in one.
-const SETTINGS_LENGTH: usize = FIELDS + 2 + INDEX_LENGTH + 1;
+/// amount in two, then the index, then the offset and the register in one each.
+const SETTINGS_LENGTH: usize = FIELDS + 2 + INDEX_LENGTH + 2;
 
 /// One call with its arguments.
 #[derive(Clone, Debug, PartialEq, Eq)]
@@ -96,6 +99,10 @@ pub enum Case {
         offset: i8,
         reading: i16,
     },
+    Port {
+        settings: Settings,
+        bits: u8,
+    },
 }
 
 /// What a call gave, with the buffers as it left them.
@@ -118,6 +125,7 @@ pub enum Answer {
     Weekday(Told),
     Days(Between),
     Temperature(Corrected),
+    Port(Noted),
 }
 
 impl Answer {
@@ -131,6 +139,7 @@ impl Answer {
             Answer::Weekday(told) => told.number,
             Answer::Days(between) => between.number,
             Answer::Temperature(corrected) => corrected.number,
+            Answer::Port(noted) => noted.number,
         }
     }
 
@@ -156,11 +165,12 @@ impl Case {
             Case::Weekday { .. } => WEEKDAY_CALL,
             Case::Days { .. } => DAYS_CALL,
             Case::Temperature { .. } => TEMPERATURE_CALL,
+            Case::Port { .. } => PORT_CALL,
         }
     }
 
-    /// The same call with this output buffer; a call on a board, on dates or on
-    /// degrees has none and stays as it is.
+    /// The same call with this output buffer; a call on a board, on dates, on
+    /// degrees or on the port's errors has none and stays as it is.
     pub fn with_output(mut self, buffer: Vec<u8>) -> Case {
         match &mut self {
             Case::Write { output, .. }
@@ -171,7 +181,8 @@ impl Case {
             | Case::Renewal { .. }
             | Case::Weekday { .. }
             | Case::Days { .. }
-            | Case::Temperature { .. } => {}
+            | Case::Temperature { .. }
+            | Case::Port { .. } => {}
         }
         self
     }
@@ -228,6 +239,7 @@ impl Case {
             Case::Temperature { offset, reading } => {
                 Answer::Temperature(temperature(offset, reading))
             }
+            Case::Port { settings, bits } => Answer::Port(port_errors(settings, bits)),
         }
     }
 
@@ -297,6 +309,10 @@ impl Case {
                 bytes.extend(offset.to_be_bytes());
                 bytes.extend(reading.to_be_bytes());
             }
+            Case::Port { settings, bits } => {
+                push_string(&mut bytes, &settings_bytes(*settings));
+                bytes.push(*bits);
+            }
         }
         bytes
     }
@@ -312,13 +328,14 @@ fn push_string(bytes: &mut Vec<u8>, string: &[u8]) {
 
 /// Settings in a stream: "one byte a field", then "the unused amount, two
 /// bytes", then "the places of the labels 20H to 7EH", then "the offset, one byte,
-/// signed". "A number of two bytes has its most significant byte first; a signed
-/// one is in two's complement."
+/// signed", then "the register, one byte". "A number of two bytes has its most
+/// significant byte first; a signed one is in two's complement."
 fn settings_bytes(settings: Settings) -> Vec<u8> {
     let mut bytes = settings.fields().to_vec();
     bytes.extend(settings.unused.to_be_bytes());
     bytes.extend(index_bytes(&settings.index));
     bytes.extend(settings.offset.to_be_bytes());
+    bytes.push(settings.register);
     bytes
 }
 
@@ -338,11 +355,15 @@ fn settings_of(string: &[u8]) -> Option<Settings> {
     }
     let (fields, rest) = string.split_at_checked(FIELDS)?;
     let (unused, rest) = rest.split_at_checked(2)?;
-    let (entries, offset) = rest.split_at_checked(INDEX_LENGTH)?;
+    let (entries, rest) = rest.split_at_checked(INDEX_LENGTH)?;
+    let &[offset, register] = rest else {
+        return None;
+    };
     let settings = Settings {
         unused: u16::from_be_bytes(unused.try_into().ok()?),
         index: index_of(entries),
-        offset: i8::from_be_bytes(offset.try_into().ok()?),
+        offset: i8::from_be_bytes([offset]),
+        register,
         ..Settings::default()
     };
     Some(settings.with_fields(fields.try_into().ok()?))
@@ -398,7 +419,7 @@ fn read_arguments(call: u8, input: &mut impl BufRead) -> io::Result<Option<Case>
             memory: read_string(input)?,
         },
         RUN_CALL => {
-            let Some(settings) = settings_of(&read_string(input)?) else {
+            let Some(settings) = read_settings(input)? else {
                 return Ok(None);
             };
             Case::Run {
@@ -441,6 +462,15 @@ fn read_arguments(call: u8, input: &mut impl BufRead) -> io::Result<Option<Case>
             offset: i8::from_be_bytes(read_bytes(input)?),
             reading: i16::from_be_bytes(read_bytes(input)?),
         },
+        PORT_CALL => {
+            let Some(settings) = read_settings(input)? else {
+                return Ok(None);
+            };
+            Case::Port {
+                settings,
+                bits: read_number(input)?,
+            }
+        }
         _ => return Ok(None),
     };
     Ok(Some(case))
@@ -458,6 +488,11 @@ fn read_date(input: &mut impl BufRead) -> io::Result<Date> {
         month: read_number(input)?,
         day: read_number(input)?,
     })
+}
+
+/// Settings; none where their string is of another length.
+fn read_settings(input: &mut impl BufRead) -> io::Result<Option<Settings>> {
+    Ok(settings_of(&read_string(input)?))
 }
 
 fn read_string(input: &mut impl BufRead) -> io::Result<Vec<u8>> {
@@ -516,6 +551,10 @@ pub fn line(answer: &Answer) -> Vec<u8> {
             line.number(corrected.number);
             line.number(corrected.sum);
         }
+        Answer::Port(noted) => {
+            line.number(noted.number);
+            line.settings(noted.settings);
+        }
     }
     line.end()
 }
@@ -552,6 +591,7 @@ impl Line {
         self.number(settings.unused);
         self.string(&index_bytes(&settings.index));
         self.number(settings.offset);
+        self.number(settings.register);
     }
 
     fn string(&mut self, string: &[u8]) {

@@ -1,6 +1,7 @@
 /* Each field of each struct of pagozkin.h, by name, after calls that give every field of a struct another value; unused amounts and
  * indices that are right and that are wrong; dates that exist and dates that do not; renewal dates, weekdays and days between dates;
- * temperature offsets and readings; what a read leaves in its room; and each call with empty slices. */
+ * temperature offsets and readings; every serial error status register; what a read leaves in its room; and each call with empty
+ * slices. */
 #include "expect.h"
 
 #include <pagozkin.h>
@@ -34,6 +35,7 @@ static pagozkin_settings board(void)
     for (size_t i = 0; i < PAGOZKIN_PLACES; i++)
         IS(made.settings.places[i], 0);
     IS(made.settings.offset, 0);
+    IS(made.settings.errors, 0);
     made = pagozkin_fresh('C', memory, MEMORY);
     IS(made.number, PAGOZKIN_DONE);
     IS(made.settings.month, 1);
@@ -44,6 +46,7 @@ static pagozkin_settings board(void)
     for (size_t i = 0; i < PAGOZKIN_PLACES; i++)
         IS(made.settings.places[i], PAGOZKIN_NOWHERE);
     IS(made.settings.offset, 0);
+    IS(made.settings.errors, PAGOZKIN_NO_ERRORS);
     return made.settings;
 }
 
@@ -68,6 +71,7 @@ static void runs(void)
     IS(a.settings.own, 'C');
     IS(a.settings.files, 2);
     is("an offset below 0", a.settings.offset == -3, 1);
+    IS(a.settings.errors, PAGOZKIN_NO_ERRORS | PAGOZKIN_ERROR_ILLEGAL);
     IS(a.settings.unused, MEMORY - 2 * (PAGOZKIN_RECORD + 0x10));
     IS(a.settings.places['A' - PAGOZKIN_FIRST_LABEL], 0);
     IS(a.settings.places['B' - PAGOZKIN_FIRST_LABEL], PAGOZKIN_RECORD + 0x10);
@@ -84,7 +88,7 @@ static void runs(void)
 }
 
 /* What settings of an older version have to be given: memory's length less, for each file, its record and its SIZE; for each label
- * where its record begins; and an offset. */
+ * where its record begins; an offset; and a register. */
 static void give(pagozkin_settings *s)
 {
     size_t at = 0;
@@ -99,12 +103,13 @@ static void give(pagozkin_settings *s)
     }
     s->unused = (uint16_t)(MEMORY - at);
     s->offset = 0;
+    s->errors = PAGOZKIN_NO_ERRORS;
 }
 
-/* Whether two settings are the same, field by field: behind the last stands a byte of no meaning. */
+/* Whether two settings are the same, byte by byte: each byte is a field's. */
 static int same(const pagozkin_settings *a, const pagozkin_settings *b)
 {
-    return memcmp(a, b, offsetof(pagozkin_settings, offset) + sizeof a->offset) == 0;
+    return memcmp(a, b, sizeof *a) == 0;
 }
 
 /* A board that is not sound: 1, and its settings come back as they were. */
@@ -153,6 +158,7 @@ static void amounts(void)
         given.unused = 0;
         memset(given.places, 0, sizeof given.places);
         given.offset = 100;
+        given.errors = 0;
         unsound("a board of an older version", given);
         give(&given);
         is("with what it has to be given it is the same", (size_t)same(&given, &s), 1);
@@ -353,6 +359,63 @@ static void temperatures(void)
     }
 }
 
+/* The port driver's call on settings with every register, sound or not, and every byte of bits; the hour is looked at by nobody. */
+static void port_errors(pagozkin_settings s)
+{
+    s.hour = 24;
+    for (int bits = 0; bits < 256; bits++) {
+        const int good = s.errors / 64 == 1;
+        const int three = PAGOZKIN_ERROR_PARITY | PAGOZKIN_ERROR_FRAMING | PAGOZKIN_ERROR_TIME_OUT;
+        pagozkin_settings next = s;
+        if (good)
+            next.errors = (uint8_t)(s.errors | (bits & three));
+        pagozkin_driven d = pagozkin_port_errors(s, (uint8_t)bits);
+        is("the port driver's number", d.number, good ? PAGOZKIN_DONE : PAGOZKIN_NOT_SOUND);
+        is("the settings but for the register", (size_t)same(&d.settings, &next), 1);
+    }
+}
+
+/* Every register on a board: 40H to 7FH is told and cleared, by a read or by E "4"; any other one is not sound. A refused block sets
+ * one bit at most, the one of its number. */
+static void errors(void)
+{
+    static const struct {
+        const char *sent;
+        uint8_t sets;
+    } each[] = {
+        {"_01Z00_02E'S_0300C5_04", PAGOZKIN_ERROR_CHECKSUM},
+        {"_01Z00_02X_04", PAGOZKIN_ERROR_ILLEGAL},
+        {"_01Z00_02E 2400_04", 0},
+        {"_01Z00_02AAHELLO_04", PAGOZKIN_ERROR_ILLEGAL},
+        {"_01Z00_02E$AAU8000FF00_04", 0},
+        {"_01Z00_02E40_04", 0},
+        {"_01Z00_02F*0_04", 0},
+        {"_01Z00_02E'S_04", 0},
+    };
+    for (int value = 0; value < 256; value++) {
+        pagozkin_settings s = board();
+        s.errors = (uint8_t)value;
+        is("a register without a sign", s.errors, (size_t)value);
+        port_errors(s);
+        if (value < PAGOZKIN_NO_ERRORS || value >= 2 * PAGOZKIN_NO_ERRORS) {
+            unsound("a board with wrong fixed bits", s);
+            continue;
+        }
+        pagozkin_answer a = pagozkin_run(s, memory, MEMORY, reply, sizeof reply, BYTES("_01Z00_02F*_04"));
+        IS(a.tally.done, 1);
+        IS(a.tally.length, 34);
+        IS(reply[25], 'E');
+        IS(reply[26], '*');
+        is("the register as it was", reply[27], (size_t)value);
+        IS(a.settings.errors, PAGOZKIN_NO_ERRORS);
+        IS(pagozkin_run(s, memory, MEMORY, reply, sizeof reply, BYTES("_01Z00_02E4_04")).settings.errors, PAGOZKIN_NO_ERRORS);
+        for (size_t i = 0; i < sizeof each / sizeof each[0]; i++) {
+            a = pagozkin_run(s, memory, MEMORY, reply, sizeof reply, (const uint8_t *)each[i].sent, strlen(each[i].sent));
+            is("the register with that bit", a.settings.errors, (size_t)(value | each[i].sets));
+        }
+    }
+}
+
 /* A length of 0 asks nothing of its pointer. */
 static void empties(void)
 {
@@ -378,6 +441,7 @@ int main(void)
     renewals();
     days();
     temperatures();
+    errors();
     writes();
     reads();
     rooms();

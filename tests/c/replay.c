@@ -34,6 +34,8 @@ static pagozkin_days_apart apart;
 static int8_t offset;
 static int16_t reading;
 static pagozkin_corrected corrected;
+static uint8_t bits;
+static pagozkin_driven driven;
 
 /* what is_sound, read and step answer beside a run */
 static uint8_t sound;
@@ -114,7 +116,7 @@ static int read_string(string *s)
 static int read_settings(void)
 {
     const uint8_t *s = bytes(&d);
-    if (!read_string(&d) || d.length != 12 + 2 * PAGOZKIN_PLACES + 1)
+    if (!read_string(&d) || d.length != 12 + 2 * PAGOZKIN_PLACES + 2)
         return 0;
     settings.hour = s[0];
     settings.minute = s[1];
@@ -130,6 +132,7 @@ static int read_settings(void)
     for (size_t i = 0; i < PAGOZKIN_PLACES; i++)
         settings.places[i] = (uint16_t)(s[12 + 2 * i] * 256 + s[13 + 2 * i]);
     settings.offset = signed_byte(s[12 + 2 * PAGOZKIN_PLACES]);
+    settings.errors = s[13 + 2 * PAGOZKIN_PLACES];
     return 1;
 }
 
@@ -153,7 +156,7 @@ static void print_settings(pagozkin_settings s)
            s.files, s.unused);
     for (size_t i = 0; i < PAGOZKIN_PLACES; i++)
         printf("%04X", s.places[i]);
-    printf(" %d ", s.offset);
+    printf(" %d %u", s.offset, s.errors);
 }
 
 static void print_written(string *out)
@@ -224,6 +227,11 @@ static void call_add_offset(void)
     corrected = pagozkin_add_offset(offset, reading);
 }
 
+static void call_port_errors(void)
+{
+    driven = pagozkin_port_errors(settings, bits);
+}
+
 static int is_guarded(string *s)
 {
     for (size_t i = 0; i < GUARD; i++)
@@ -257,6 +265,7 @@ static int case_fresh(void)
         return 1;
     printf("%u ", made.number);
     print_settings(made.settings);
+    putchar(' ');
     print_string(&a);
     return 0;
 }
@@ -301,6 +310,7 @@ static int case_run(void)
     printf("%u %u %u %u %u %zu ", answer.number, answer.tally.done, answer.tally.refused, answer.tally.place, answer.tally.reason,
            answer.tally.length);
     print_settings(answer.settings);
+    putchar(' ');
     print_string(&a);
     putchar(' ');
     print_string(&b);
@@ -377,6 +387,17 @@ static int case_add_offset(void)
     return 0;
 }
 
+static int case_port_errors(void)
+{
+    if (!read_settings() || !read_number(&bits))
+        return 2;
+    if (!called(call_port_errors, PAGOZKIN_STACK_PORT_ERRORS))
+        return 1;
+    printf("%u ", driven.number);
+    print_settings(driven.settings);
+    return 0;
+}
+
 static int one_case(int call)
 {
     switch (call) {
@@ -398,6 +419,8 @@ static int one_case(int call)
         return case_days_between();
     case 'T':
         return case_add_offset();
+    case 'P':
+        return case_port_errors();
     default:
         return 2;
     }

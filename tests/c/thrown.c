@@ -17,6 +17,7 @@ pagozkin_renewed renewed;
 pagozkin_day_of_week day;
 pagozkin_days_apart apart;
 pagozkin_corrected corrected;
+pagozkin_driven driven;
 
 void calls(pagozkin_settings settings, pagozkin_date date, uint8_t *a, uint8_t *b, const uint8_t *c, size_t n);
 
@@ -34,4 +35,5 @@ void calls(pagozkin_settings settings, pagozkin_date date, uint8_t *a, uint8_t *
     ANSWER(day) pagozkin_weekday(date);
     ANSWER(apart) pagozkin_days_between(date, date);
     ANSWER(corrected) pagozkin_add_offset(0, 0);
+    ANSWER(driven) pagozkin_port_errors(settings, PAGOZKIN_ERROR_PARITY);
 }

@@ -3,11 +3,13 @@ use crate::Settings;
 use dates::calendar::FIRST_YEAR;
 use dates::calendar::is_date;
 use frame::is_own_type;
+use register::CLEARED;
+use register::is_register;
 use temperature::offset::is_offset;
 ghost use mathlib.Core.Path.{_≡_};
 ghost use mathlib.Core.Bool.{_&&_, _||_};
 ghost use Rattle.octets.specs.Choice.{_is_, _≤?_};
-ghost use Rattle.board.specs.Settings.{FORMAT-S, FORMAT-M, OFF, ON, inDate, inRange, withTime, withDate, withFormat, withSpeaker, withAddress, withOffset, withFiles};
+ghost use Rattle.board.specs.Settings.{FORMAT-S, FORMAT-M, OFF, ON, inDate, inRange, withTime, withDate, withFormat, withSpeaker, withAddress, withOffset, withErrors, cleared, withFiles};
 
 // time formats "S" and "M"
 pub const FORMAT_S: u8 = 0x53;
@@ -76,6 +78,23 @@ impl Settings {
         next
     }
 
+    pub fn with_errors(self, errors: u8) -> Settings
+        ensures { λ r. ⌜ r ≡ withErrors self errors ⌝ }
+    {
+        let mut next = self;
+        next.errors = errors;
+        next
+    }
+
+    // The serial error status register as it is on a fresh board.
+    pub fn cleared(self) -> Settings
+        ensures { λ r. ⌜ r ≡ cleared self ⌝ }
+    {
+        let mut next = self;
+        next.errors = CLEARED;
+        next
+    }
+
     // All that "$" changes.
     pub fn with_files(self, files: u8, unused: u16, places: [u16; 95]) -> Settings
         ensures { λ r. ⌜ r ≡ withFiles self files unused places ⌝ }
@@ -116,7 +135,8 @@ fn is_speaker(speaker: u8) -> bool
     speaker == OFF || speaker == ON
 }
 
-// "time, date, speaker, format, type are in range. Any address 00 to FF is in range."; request 9: an offset is -9 to 9.
+// "time, date, speaker, format, type are in range. Any address 00 to FF is in range."; request 9: an offset is -9 to 9; request 10:
+// a register has its fixed bits.
 pub fn in_range(s: Settings) -> bool
     ensures { λ r. ⌜ r ≡ inRange s ⌝ }
 {
@@ -133,6 +153,9 @@ pub fn in_range(s: Settings) -> bool
         return false;
     }
     if !is_own_type(s.own) {
+        return false;
+    }
+    if !is_register(s.errors) {
         return false;
     }
     is_offset(s.offset)

@@ -7,6 +7,7 @@ use Rattle.renewal.specs.Counting.{exists, monthNumber, lengthOf, daysBefore, d
 use Rattle.renewal.specs.Renewing.{isCount, yearOf, monthOf, isYear, kept, reached, renewalDate}
 use Rattle.renewal.specs.Days.{weekday, daysBetween}
 use Rattle.temperature.specs.Correcting.{isReading, addOffset}
+use Rattle.sign.specs.Errors.{portErrors}
 use Rattle.sheet.specs.Sheet.{bytes, start, inTurn, onFresh}
 use Rattle.sheet.proofs.Computing.{base}
 use Rattle.cases.specs.Numbers.{numberOf, blockNumber, holds, allHold, times, numbersTable}
@@ -15,6 +16,8 @@ use Rattle.cases.specs.Unused.{wrongOn, unusedTable}
 use Rattle.cases.specs.Index.{misplaced, indexTable}
 use Rattle.cases.specs.Renewals.{AllAnswer, renewalsTable}
 use Rattle.cases.specs.Temperatures.{offsetsTable, AllMeasure, temperaturesTable}
+use Rattle.cases.specs.Faults.{registersTable, faultsTable}
+use Rattle.cases.specs.Faults as faults-of
 use Rattle.cases.specs.Witnesses.{AllShow, witnesses}
 
 pub numbers : allHold numbersTable ≡ true
@@ -49,6 +52,14 @@ offsets = refl
 pub temperatures : AllMeasure temperaturesTable
 unfolding temperaturesTable isReading addOffset bytes base
 temperatures = (refl, (refl, (refl, (refl, (refl, (refl, (refl, (refl, (refl, (refl, (refl, (refl, (refl, (refl, (refl, (refl, (refl, (refl, (refl, (refl, (refl, (refl, (refl, (refl, (refl, tt)))))))))))))))))))))))))
+
+pub registers : allHold registersTable ≡ true
+unfolding numberOf blockNumber holds allHold registersTable bytes start inTurn onFresh base
+registers = refl
+
+pub faults : faults-of.AllShow faultsTable
+unfolding faultsTable blockNumber portErrors bytes start inTurn onFresh base
+faults = ((refl, refl), ((refl, refl), ((refl, refl), ((refl, refl), ((refl, refl), ((refl, refl), ((refl, refl), ((refl, refl), ((refl, refl), ((refl, refl), ((refl, refl), ((refl, refl), ((refl, refl), ((refl, refl), ((refl, refl), ((refl, refl), ((refl, refl), ((refl, refl), ((refl, refl), ((refl, refl), ((refl, refl), ((refl, refl), ((refl, refl), ((refl, refl), ((refl, refl), ((refl, refl), ((refl, refl), ((refl, refl), (refl, ((refl, refl), ((refl, refl), (refl, (refl, (refl, (refl, (refl, (refl, (refl, (refl, (refl, (refl, (refl, (refl, tt)))))))))))))))))))))))))))))))))))))))))))
 
 pub shown : AllShow witnesses
 unfolding witnesses bytes start inTurn onFresh base

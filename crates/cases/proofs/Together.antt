@@ -67,7 +67,9 @@ pub record Seen : Type 0 where
   pub counts : both .answer .tally ≡ tally 4 1 4 23 37
   pub stored : take 21 (both .memory) ≡ bytes "AAU000AFF00FULL\0\0\0\0\0\0"
   pub replied : take 37 (both .reply) ≡ bytes "\0\0\0\0\0\0\0\0\0\0\0\0\0\0\0\0\0\0\0\0\u{1}000\u{2}AAFULL\u{3}01BA\u{4}"
+  -- request 10: the block that was refused with 23 is in the register
+  pub errors : both .answer .settings .errors ≡ 0x60
 
 pub seen : Seen
 unfolding before both joined first second bytes start base
-seen = record { sound = refl; counts = refl; stored = refl; replied = refl }
+seen = record { sound = refl; counts = refl; stored = refl; replied = refl; errors = refl }

@@ -4,4 +4,5 @@ pub mod Unused
 pub mod Index
 pub mod Renewals
 pub mod Temperatures
+pub mod Faults
 pub mod Witnesses

@@ -1,6 +1,6 @@
 -- The command by its byte, and the sum before it.
 use Prim.Native.Nat.{ℕ}
-use mathlib.Core.Path.{_≡_, sym, ap, _∙_}
+use mathlib.Core.Path.{_≡_, sym, ap, ap₂, _∙_}
 use mathlib.Core.Bool.{Bool, true, false, not}
 use mathlib.Core.List.{List}
 use borrow.Author.Needs.{needs}
@@ -15,7 +15,8 @@ use Rattle.board.specs.declared.Settings.{Settings}
 use Rattle.effects.specs.Effects.{Board, board, Effect}
 use Rattle.commands.specs.Commands.{writeFile, readFile}
 use Rattle.special.specs.Special.{writeSpecial, readSpecial}
-use Rattle.commands.specs.Blocks.{command, runBlock}
+use Rattle.commands.specs.Blocks.{command, doBlock, runBlock}
+use Rattle.effects.specs.Recording.{withFault}
 use Rattle.effects.specs.Leaving.{doneAs, Acts, Tells}
 use Rattle.commands.specs.Doing.{Does}
 use Rattle.effects.specs.declared.Done.{Done}
@@ -34,12 +35,12 @@ does-acts out e r m a =
       long = a .length ∙ ap length (sym (a .quiet));
     }
 
--- with one the board is as it was
+-- with one memory is as it was
 does-tells : (s : Settings) (m out : List ℕ) (e : Effect) (r : Done) (after : List ℕ) → Tells (board s m) out e r after → Does out e r m after
 does-tells s m out e r after t =
     record {
       number = t .number;
-      settings = t .settings ∙ ap (λ (b : Board). b .settings) (sym (t .same));
+      settings = t .settings;
       stored = ap (λ (b : Board). b .memory) (sym (t .same));
       replied = t .stored;
       long = t .long;
@@ -48,38 +49,38 @@ does-tells s m out e r after t =
 -- ---- a block with a right sum; m′ and out′ are what is left
 
 module _ (s : Settings) (m : List ℕ) (code : ℕ) (text out : List ℕ) (right : Bool) (w : not right ≡ false) (r : Done) where
-  by-command : (m′ out′ : List ℕ) → Does out (command (board s m) code text) r m′ out′ → Does out (runBlock (board s m) (block code text right)) r m′ out′
-  unfolding runBlock
+  by-command : (m′ out′ : List ℕ) → Does out (command (board s m) code text) r m′ out′ → Does out (doBlock (board s m) (block code text right)) r m′ out′
+  unfolding doBlock
   by-command m′ out′ d = rw w d
 
   module _ (m′ : List ℕ) where
-    pub write-text : code ≡ A → Acts (writeFile TEXT (board s m) text) r m′ → Does out (runBlock (board s m) (block code text right)) r m′ out
+    pub write-text : code ≡ A → Acts (writeFile TEXT (board s m) text) r m′ → Does out (doBlock (board s m) (block code text right)) r m′ out
     unfolding command
     write-text e a = by-command m′ out (rw e (does-acts out (writeFile TEXT (board s m) text) r m′ a))
 
-    pub write-string : code ≡ G → Acts (writeFile STRING (board s m) text) r m′ → Does out (runBlock (board s m) (block code text right)) r m′ out
+    pub write-string : code ≡ G → Acts (writeFile STRING (board s m) text) r m′ → Does out (doBlock (board s m) (block code text right)) r m′ out
     unfolding command
     write-string e a = by-command m′ out (rw e (does-acts out (writeFile STRING (board s m) text) r m′ a))
 
-    pub set-special : code ≡ E → Acts (writeSpecial (board s m) text) r m′ → Does out (runBlock (board s m) (block code text right)) r m′ out
+    pub set-special : code ≡ E → Acts (writeSpecial (board s m) text) r m′ → Does out (doBlock (board s m) (block code text right)) r m′ out
     unfolding command
     set-special e a = by-command m′ out (rw e (does-acts out (writeSpecial (board s m) text) r m′ a))
 
   module _ (out′ : List ℕ) where
-    pub read-text : code ≡ B → Tells (board s m) out (readFile TEXT A (board s m) text) r out′ → Does out (runBlock (board s m) (block code text right)) r m out′
+    pub read-text : code ≡ B → Tells (board s m) out (readFile TEXT A (board s m) text) r out′ → Does out (doBlock (board s m) (block code text right)) r m out′
     unfolding command
     read-text e t = by-command m out′ (rw e (does-tells s m out (readFile TEXT A (board s m) text) r out′ t))
 
-    pub read-string : code ≡ H → Tells (board s m) out (readFile STRING G (board s m) text) r out′ → Does out (runBlock (board s m) (block code text right)) r m out′
+    pub read-string : code ≡ H → Tells (board s m) out (readFile STRING G (board s m) text) r out′ → Does out (doBlock (board s m) (block code text right)) r m out′
     unfolding command
     read-string e t = by-command m out′ (rw e (does-tells s m out (readFile STRING G (board s m) text) r out′ t))
 
-    pub get-special : code ≡ F → Tells (board s m) out (readSpecial (board s m) text) r out′ → Does out (runBlock (board s m) (block code text right)) r m out′
+    pub get-special : code ≡ F → Tells (board s m) out (readSpecial (board s m) text) r out′ → Does out (doBlock (board s m) (block code text right)) r m out′
     unfolding command
     get-special e t = by-command m out′ (rw e (does-tells s m out (readSpecial (board s m) text) r out′ t))
 
   pub unknown : (code ≡ A → ⊥) → (code ≡ G → ⊥) → (code ≡ B → ⊥) → (code ≡ H → ⊥) → (code ≡ E → ⊥) → (code ≡ F → ⊥) →
-      r ≡ doneAs 21 s 0 → Does out (runBlock (board s m) (block code text right)) r m out
+      r ≡ doneAs 21 s 0 → Does out (doBlock (board s m) (block code text right)) r m out
   unfolding command
   unknown a g b h e f q =
       by-command m out
@@ -89,8 +90,26 @@ module _ (s : Settings) (m : List ℕ) (code : ℕ) (text out : List ℕ) (right
 -- ---- with a wrong one
 
 pub sum-wrong : (s : Settings) (m : List ℕ) (code : ℕ) (text out : List ℕ) (right : Bool) → not right ≡ true → (r : Done) → r ≡ doneAs 20 s 0 →
-    Does out (runBlock (board s m) (block code text right)) r m out
-unfolding runBlock
+    Does out (doBlock (board s m) (block code text right)) r m out
+unfolding doBlock
 sum-wrong s m code text out right w r q = rw w (does-acts out _ r m (acts-refused 20 s m r q))
 
 pub ruleset choosing = (write-text, write-string, set-special, read-text, read-string, get-special, unknown, sum-wrong, needs)
+
+-- ---- with its number noted; d is what was answered before
+
+pub does-recorded : (s : Settings) (m : List ℕ) (code : ℕ) (text out : List ℕ) (right : Bool) (d r : Done) (m′ out′ : List ℕ) →
+    Does out (doBlock (board s m) (block code text right)) d m′ out′ → r ≡ doneAs (d .number) (withFault (d .settings) (d .number)) (d .length) →
+    Does out (runBlock (board s m) (block code text right)) r m′ out′
+unfolding runBlock
+does-recorded s m code text out right d r m′ out′ x q =
+    rw q
+    (record {
+      number = x .number;
+      settings = ap₂ withFault (x .settings) (x .number);
+      stored = x .stored;
+      replied = x .replied;
+      long = x .long;
+    })
+
+pub ruleset recording = (does-recorded, needs)

@@ -1,6 +1,6 @@
 -- A content told, case by case.
 use Prim.Native.Nat.{ℕ, _+_, _-_, _^_, _<_, _≤_}
-use mathlib.Core.Path.{_≡_, sym, ap, _∙_}
+use mathlib.Core.Path.{_≡_, refl, sym, ap, _∙_}
 use mathlib.Core.Bool.{true}
 use mathlib.Core.List.{List}
 use native.Mathlib.Omega.{arith}
@@ -103,7 +103,7 @@ module _ (s : Settings) (m : List ℕ) (g : sound s m ≡ true) (label kind : �
     get-done code out after last n k h t r =
         let d : start + size - start ≡ size = omega arith in
         let w = rw d at (replied-over m start size out h after n t code label last k r) in
-        rw (← e, p) (tells-replied s m out (replyOf code label (front isPlain (take size (drop start m)))) last k (w .0) (w .1))
+        rw (← e, p) (tells-replied s s refl m out (replyOf code label (front isPlain (take size (drop start m)))) last k (w .0) (w .1))
 
 -- ---- the label alone
 

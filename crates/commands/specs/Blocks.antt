@@ -7,6 +7,7 @@ use Rattle.octets.specs.Bytes.{A, B, E, F, G, H}
 use Rattle.body.specs.Body.{Block}
 use Rattle.board.specs.Files.{TEXT, STRING}
 use Rattle.effects.specs.Effects.{Board, Effect, refuse}
+use Rattle.effects.specs.Recording.{recorded}
 use Rattle.commands.specs.Commands.{writeFile, readFile}
 use Rattle.special.specs.Special.{writeSpecial, readSpecial}
 
@@ -22,5 +23,9 @@ command b c d =
     else refuse 21 b
 
 -- 20 "wrong checksum"
+unfoldable pub doBlock : Board → Block → Effect
+doBlock b k = if not (k .right) then refuse 20 b else command b (k .command) (k .text)
+
+-- request 10: with its number noted in the register
 unfoldable pub runBlock : Board → Block → Effect
-runBlock b k = if not (k .right) then refuse 20 b else command b (k .command) (k .text)
+runBlock b k = recorded (doBlock b k)

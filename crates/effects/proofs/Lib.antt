@@ -2,3 +2,4 @@
 pub mod ReplyLengths
 pub mod Around
 pub mod Outcomes
+pub mod Faults

@@ -5,6 +5,7 @@ use mathlib.Core.List.{List}
 use lib.ListN.{length}
 use Rattle.octets.specs.Buffer.{overlay}
 use Rattle.buffers.proofs.Splices.{overlay-none}
+use Rattle.board.specs.Settings.{withErrors}
 use Rattle.board.specs.declared.Settings.{Settings}
 use Rattle.effects.specs.Effects.{board, done, replied, refuse}
 use Rattle.effects.specs.Leaving.{doneAs, Acts, Tells}
@@ -35,6 +36,8 @@ module _ (n : ℕ) (s : Settings) (m : List ℕ) (r : Done) (e : r ≡ doneAs n 
 pub acts-done : (s : Settings) (m : List ℕ) (r : Done) → r ≡ doneAs 0 s 0 → Acts (done (board s m)) r m
 acts-done s m r e = acts-refused 0 s m r e
 
-pub tells-replied : (s : Settings) (m out reply after : List ℕ) (n : ℕ) → after ≡ overlay out reply → n ≡ length reply →
-    Tells (board s m) out (replied (board s m) reply) (doneAs 0 s n) after
-tells-replied s m out reply after n p q = record { number = refl; same = refl; settings = refl; stored = p; long = q }
+-- t are the settings afterwards
+pub tells-replied : (s t : Settings) → t ≡ withErrors s (t .errors) → (m out reply after : List ℕ) (n : ℕ) → after ≡ overlay out reply →
+    n ≡ length reply → Tells (board s m) out (replied (board t m) reply) (doneAs 0 t n) after
+tells-replied s t e m out reply after n p q =
+    record { number = refl; same = ap (λ (x : Settings). board x m) e; settings = refl; stored = p; long = q }

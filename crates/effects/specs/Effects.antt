@@ -26,6 +26,6 @@ done b = record { number = 0; after = b; reply = [] }
 abbrev pub replied : Board → List ℕ → Effect
 replied b r = record { number = 0; after = b; reply = r }
 
--- refused, the board as it was
+-- refused, the board as it was (what is then noted of it: Recording)
 abbrev pub refuse : ℕ → Board → Effect
 refuse n b = record { number = n; after = b; reply = [] }

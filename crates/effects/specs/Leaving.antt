@@ -7,10 +7,11 @@ use lib.ListN.{length}
 use Rattle.octets.specs.Hex.{inHex4}
 use Rattle.octets.specs.Buffer.{zeros, splice, overlay}
 use Rattle.octets.specs.Bytes.{SOH, STX, ETX, EOT, ZERO}
+use Rattle.board.specs.Settings.{withErrors}
 use Rattle.board.specs.Soundness.{sound}
 use Rattle.board.specs.declared.Settings.{Settings}
 use Rattle.effects.specs.Reply.{replyOf}
-use Rattle.effects.specs.Effects.{Board, Effect}
+use Rattle.effects.specs.Effects.{Board, board, Effect}
 use Rattle.effects.specs.declared.Done.{Done}
 
 -- what a block answers
@@ -42,11 +43,11 @@ pub record Acts (e : Effect) (r : Done) (memory : List ℕ) : Type 0 where
   pub quiet : e .reply ≡ []
   pub length : r .length ≡ 0
 
--- a command that leaves the board: its number, and the reply
+-- a command that replies: its number, the settings after it, and the reply; the board is as it was, but for the register
 pub record Tells (b : Board) (out : List ℕ) (e : Effect) (r : Done) (after : List ℕ) : Type 0 where
   pub number : r .number ≡ e .number
-  pub same : e .after ≡ b
-  pub settings : r .settings ≡ b .settings
+  pub same : e .after ≡ board (withErrors (b .settings) (e .after .settings .errors)) (b .memory)
+  pub settings : r .settings ≡ e .after .settings
   pub stored : after ≡ overlay out (e .reply)
   pub long : r .length ≡ length (e .reply)
 

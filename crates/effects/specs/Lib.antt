@@ -1,4 +1,5 @@
 -- What a command leaves.
 pub mod Effects
+pub mod Recording
 pub mod Reply
 pub mod Leaving

@@ -3,6 +3,7 @@ use board::Settings;
 
 mod effects;
 pub mod numbers;
+pub mod recording;
 pub mod reply;
 
 pub use crate::effects::quiet;

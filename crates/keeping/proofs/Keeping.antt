@@ -5,69 +5,124 @@ use mathlib.Core.Path.{_≡_, refl, sym, ap, _∙_}
 use mathlib.Core.List.{List, [], _∷_}
 use mathlib.Core.Bool.{Bool, true, false, not}
 use native.Mathlib.Omega.{arith}
-use lib.ListN.{length}
-use borrow.Author.Tests.{ltb-false, eqb-true}
-use Rattle.octets.specs.Choice.{_is_, _isn't_, _<?_, _!_, none}
+use lib.ListN.{length, take, drop}
+use borrow.Author.Tests.{ltb-false, eqb-true, eqb-false}
+use Rattle.octets.specs.Choice.{if_then_else_, _is_, _isn't_, _<?_, _!_, none, front}
 use Rattle.octets.specs.Bytes.{A, B, E, F, G, H, isPlain}
-use Rattle.octets.proofs.Tests.{choice, never}
+use Rattle.octets.proofs.Tests.{choice, by-test, never}
 use Rattle.octets.proofs.Lists.{all-tail}
 use Rattle.body.specs.Body.{Block, isRead}
 use Rattle.board.specs.declared.Found.{Found}
 use Rattle.board.specs.declared.Found.the-variants.{At, Nothing}
 use Rattle.board.specs.declared.Settings.{Settings}
-use Rattle.board.specs.Settings.{withFiles}
+use Rattle.register.specs.Register.{CLEARED, isRegister}
+use Rattle.board.specs.Settings.{inRange, withErrors, cleared, withFiles}
 use Rattle.board.specs.Files.{TEXT, STRING, FILES, File, filesOf, unused, distinct}
 use Rattle.board.specs.Index.{indexOf}
-use Rattle.board.specs.Soundness.{soundMemory, sound}
-use Rattle.board.proofs.Ranges.{files-ranged}
+use Rattle.board.specs.Soundness.{soundMemory, keepsTrue, sound}
+use Rattle.board.proofs.Ranges.{range, errors-ranged, files-ranged}
 use Rattle.board.proofs.SoundParts.{parts, sound-parts, kept-true, sound-whole}
 use Rattle.board.proofs.Inside.{sound-held, sound-unused, sound-index}
+use Rattle.effects.specs.Reply.{replyOf}
 use Rattle.effects.specs.Effects.{Board, board, Effect, done, replied, refuse}
+use Rattle.effects.specs.Recording.{faultNoted, withFault, recorded}
 use Rattle.commands.specs.Commands.{findOn, holding}
 use Rattle.commands.specs.Commands.{putMessage, writeFile, getContent, readFile}
 use Rattle.records.specs.Records.{isRecords, recordsIn, labelsIn, needed, refusal, laid}
 use Rattle.special.specs.Configuration.{configure}
-use Rattle.special.specs.Special.{CONFIGURATION, Change, setsAddress, setBy, change, writeSpecial, isTold, readSpecial}
-use Rattle.commands.specs.Blocks.{command, runBlock}
-use Rattle.keeping.specs.Keeping.{fileIn, configures, writes, Effects}
+use Rattle.special.specs.Special.{CONFIGURATION, CLEAR, ERRORS, Change, setsAddress, setBy, change, writeSpecial, isTold, tell, afterTold, readSpecial}
+use Rattle.commands.specs.Blocks.{command, doBlock, runBlock}
+use Rattle.keeping.specs.Keeping.{fileIn, configures, writes, clears, Effects}
 use Rattle.keeping.proofs.Messages.{content, put-others, holding-files, holding-length, holding-unused, holding-index, holding-sound}
 use Rattle.records.proofs.RecordLaws.{laid-length, laid-sound, laid-index}
 use Rattle.records.proofs.Refusing.{taken}
 use Rattle.keeping.proofs.Changes.{Kept, set-keeps}
 use Rattle.special.proofs.TellLengths.{told-fits}
 use Rattle.effects.proofs.ReplyLengths.{content-fits}
+use Rattle.effects.proofs.Faults.{fault-fixed}
+
+-- other settings that are in range and keep the same of memory
+other-settings : (s t : Settings) (m : List ℕ) → (inRange s ≡ true → inRange t ≡ true) → t .files ≡ s .files → keepsTrue t m ≡ keepsTrue s m →
+    sound s m ≡ true → sound t m ≡ true
+other-settings s t m r f k e =
+    let q = sound-parts s m e in
+    sound-whole t m (record { ranged = r (q .ranged); filed = ap (λ (n : ℕ). soundMemory n m) f ∙ q .filed; kept = k ∙ q .kept })
+
+-- another register with its fixed bits
+pub errors-sound : (s : Settings) (m : List ℕ) (x : ℕ) → (isRegister (s .errors) ≡ true → isRegister x ≡ true) → sound s m ≡ true → sound (withErrors s x) m ≡ true
+unfolding keepsTrue
+errors-sound s m x h = other-settings s (withErrors s x) m (λ r. errors-ranged s r x (h (range s r .errors))) refl refl
+
+-- a number that is noted
+fault-sound : (s : Settings) (m : List ℕ) (n : ℕ) → sound s m ≡ true → sound (withFault s n) m ≡ true
+fault-sound s m n = errors-sound s m (faultNoted (s .errors) n) (fault-fixed (s .errors) n)
+
+-- what a command keeps once its number is noted
+unfoldable Noted : Board → ℕ → List ℕ → Effect → Type 0
+Noted b c d e = Effects b c d (recorded e)
 
 module _ (b : Board) (c : ℕ) where
-  -- a command that leaves the board as it was
-  stays : (d : List ℕ) (n : ℕ) (r : List ℕ) → ((n ≡ 0 → ⊥) → r ≡ []) → (isRead c ≡ false → r ≡ []) →
-      length r ≤ length (b .memory) + 64 → Effects b c d (record { number = n; after = b; reply = r })
-  stays d n r x y f =
+  -- a command that is done leaves nothing to note
+  as-done : (d : List ℕ) (after : Board) (r : List ℕ) → Effects b c d (replied after r) → Noted b c d (replied after r)
+  unfolding Noted faultNoted
+  as-done d after r x = x
+
+  -- a command that is refused
+  refuses : (d : List ℕ) (n : ℕ) → (n ≡ 0 → ⊥) → Noted b c d (refuse n b)
+  unfolding Noted
+  refuses d n z =
       record {
         own = refl;
         long = refl;
-        sound = λ p s. s;
+        sound = λ p s. fault-sound (b .settings) (b .memory) n s;
         address = λ n. refl;
         files = λ n. refl;
         memory = λ n. refl;
         others = λ n p s k o. refl;
-        refused = λ n. (refl, x n);
-        quiet = y;
-        fits = f;
+        refused = λ n. (refl, refl);
+        errors = λ e. absurd (z e);
+        read = λ t e. absurd (z e);
+        quiet = λ n. refl;
+        fits = omega arith;
       }
 
-  -- a command that is refused
-  refuses : (d : List ℕ) (n : ℕ) → Effects b c d (refuse n b)
-  refuses d n = stays d n [] (λ n. refl) (λ n. refl) (omega arith)
+  malformed : (d : List ℕ) → Noted b c d (refuse 22 b)
+  malformed d = refuses d 22 (λ e. omega arith)
 
   -- a read that is answered
-  replies : (d r : List ℕ) → isRead c ≡ true → length r ≤ length (b .memory) + 64 → Effects b c d (replied b r)
-  replies d r t f = stays d 0 r (λ n. absurd (n refl)) (λ n. never (sym t ∙ n)) f
+  replies : (d r : List ℕ) → isRead c ≡ true → length r ≤ length (b .memory) + 64 →
+      Noted b c d (replied (board (if clears c d then cleared (b .settings) else b .settings) (b .memory)) r)
+  unfolding isRegister
+  replies d r t f =
+      as-done d (board (if clears c d then cleared (b .settings) else b .settings) (b .memory)) r
+      (by-test (clears c d) (λ e. rw e (whole CLEARED (rw e) (rw e) (errors-sound (b .settings) (b .memory) CLEARED (λ g. refl))))
+      (λ e. rw e (whole (b .settings .errors) (rw e) (rw e) (λ g. g))))
+    where
+      whole : (x : ℕ) → x ≡ (if clears c d then CLEARED else b .settings .errors) →
+          withErrors (b .settings) x ≡ (if clears c d then cleared (b .settings) else b .settings) →
+          (sound (b .settings) (b .memory) ≡ true → sound (withErrors (b .settings) x) (b .memory) ≡ true) →
+          Effects b c d (replied (board (withErrors (b .settings) x) (b .memory)) r)
+      whole x e g h =
+          record {
+            own = refl;
+            long = refl;
+            sound = λ p s. h s;
+            address = λ n. refl;
+            files = λ n. refl;
+            memory = λ n. refl;
+            others = λ n p s k o. refl;
+            refused = λ n. absurd (n refl);
+            errors = λ n. e;
+            read = λ t n. ap (λ (s : Settings). board s (b .memory)) g;
+            quiet = λ n. never (sym t ∙ n);
+            fits = f;
+          }
 
   -- ---- A and G
-  puts : (label kind : ℕ) (msg : List ℕ) → writes c (label ∷ msg) ≡ true →
-      Effects b c (label ∷ msg) (putMessage b (findOn b label kind) msg)
+  puts : (label kind : ℕ) (msg : List ℕ) → writes c (label ∷ msg) ≡ true → isRead c ≡ false → clears c (label ∷ msg) ≡ false →
+      Noted b c (label ∷ msg) (putMessage b (findOn b label kind) msg)
   unfolding putMessage
-  puts label kind msg w = go (findOn b label kind) refl
+  puts label kind msg w t z = go (findOn b label kind) refl
     where
       n : ℕ
       n = b .settings .files
@@ -104,63 +159,67 @@ module _ (b : Board) (c : ℕ) where
                 (holding-files n m s label kind start size e msg small (all-tail isPlain label msg p))
                 ∙ put-others (filesOf n m) label kind (content size msg) k o;
             refused = λ n. absurd (n refl);
+            errors = λ n. rw z;
+            read = λ r. never (sym r ∙ t);
             quiet = λ n. refl;
             fits = omega arith;
           }
 
-      go : (f : Found) → findOn b label kind ≡ f → Effects b c (label ∷ msg) (putMessage b f msg)
-      go Nothing e = refuses (label ∷ msg) 23
+      go : (f : Found) → findOn b label kind ≡ f → Noted b c (label ∷ msg) (putMessage b f msg)
+      go Nothing e = refuses (label ∷ msg) 23 (λ e. omega arith)
       go (At start size) e =
-          choice (Effects b c (label ∷ msg)) (size <? length msg) (λ q. refuses (label ∷ msg) 24) (λ q. fit start size e q)
+          choice (Noted b c (label ∷ msg)) (size <? length msg) (λ q. refuses (label ∷ msg) 24 (λ e. omega arith))
+          (λ q. as-done (label ∷ msg) (board (b .settings) (holding m start size msg)) [] (fit start size e q))
 
-  write-effects : (kind : ℕ) (d : List ℕ) → writes c d ≡ true → Effects b c d (writeFile kind b d)
+  write-effects : (kind : ℕ) (d : List ℕ) → writes c d ≡ true → isRead c ≡ false → clears c d ≡ false → Noted b c d (writeFile kind b d)
   unfolding writeFile
-  write-effects kind [] w = refuses [] 22
-  write-effects kind (label ∷ msg) w = puts label kind msg w
+  write-effects kind [] w t z = malformed []
+  write-effects kind (label ∷ msg) w t z = puts label kind msg w t z
 
   -- ---- B and H
-  gets : (code : ℕ) (d : List ℕ) (label : ℕ) (f : Found) → isRead c ≡ true → Effects b c d (getContent code b label f)
+  gets : (code : ℕ) (d : List ℕ) (label : ℕ) (f : Found) → isRead c ≡ true → clears c d ≡ false → Noted b c d (getContent code b label f)
   unfolding getContent
-  gets code d label Nothing t = refuses d 23
-  gets code d label (At start size) t = replies d _ t (content-fits code label (b .memory) start size)
+  gets code d label Nothing t z = refuses d 23 (λ e. omega arith)
+  gets code d label (At start size) t z =
+      let r = replyOf code label (front isPlain (take size (drop start (b .memory)))) in
+      rw z at (replies d r t (content-fits code label (b .memory) start size))
 
-  read-effects : (kind code : ℕ) (d : List ℕ) → isRead c ≡ true → Effects b c d (readFile kind code b d)
+  read-effects : (kind code : ℕ) (d : List ℕ) → isRead c ≡ true → clears c d ≡ false → Noted b c d (readFile kind code b d)
   unfolding readFile
-  read-effects kind code d t =
-      choice (Effects b c d) (length d isn't 1) (λ e. refuses d 22) (λ e. gets code d (d ! 0) (findOn b (d ! 0) kind) t)
+  read-effects kind code d t z =
+      choice (Noted b c d) (length d isn't 1) (λ e. malformed d) (λ e. gets code d (d ! 0) (findOn b (d ! 0) kind) t z)
 
   -- ---- E
-  changes : (d : List ℕ) (x : Change) → Kept (setsAddress c d) (b .settings) x → Effects b c d (change b x)
-  changes d x k =
+  changes : (d : List ℕ) (x : Change) → isRead c ≡ false → Kept (setsAddress c d) (clears c d) (b .settings) x → Noted b c d (change b x)
+  unfolding Noted faultNoted
+  changes d x t k =
       record {
         own = k .own;
         long = refl;
         sound = λ p s.
-            let q = sound-parts (b .settings) (b .memory) s in
-            sound-whole (x .settings) (b .memory)
-            (record {
-              ranged = k .ranged (q .ranged);
-              filed = ap (λ (n : ℕ). soundMemory n (b .memory)) (k .files) ∙ q .filed;
-              kept = k .kept (b .memory) ∙ q .kept;
-            });
+            fault-sound (x .settings) (b .memory) (x .number)
+            (other-settings (b .settings) (x .settings) (b .memory) (k .ranged) (k .files) (k .kept (b .memory)) s);
         address = k .address;
         files = λ n. k .files;
         memory = λ n. refl;
         others = λ x p s i o. ap (λ (n : ℕ). fileIn (filesOf n (b .memory)) i) (k .files);
-        refused = λ n. (ap (λ (t : Settings). board t (b .memory)) (k .refused n), refl);
+        refused = λ n. (ap (λ (t : Settings). board (withFault t (x .number)) (b .memory)) (k .refused n), refl);
+        errors = λ n. rw n (k .errors n);
+        read = λ r. never (sym r ∙ t);
         quiet = λ n. refl;
         fits = omega arith;
       }
 
-  configure-effects : (label : ℕ) (d : List ℕ) → configures c (label ∷ d) ≡ true → Effects b c (label ∷ d) (configure b d)
+  configure-effects : (label : ℕ) (d : List ℕ) → configures c (label ∷ d) ≡ true → isRead c ≡ false → clears c (label ∷ d) ≡ false →
+      Noted b c (label ∷ d) (configure b d)
   unfolding configure
-  configure-effects label d w =
+  configure-effects label d w r z =
       choice P (refusal d (length (b .memory)) is 0)
       (λ e. let t = taken d (length (b .memory)) (eqb-true (refusal d (length (b .memory))) 0 e) in fit (t .good) (t .apart) (t .fits))
-      (λ e. refuses (label ∷ d) (refusal d (length (b .memory))))
+      (λ e. refuses (label ∷ d) (refusal d (length (b .memory))) (eqb-false _ 0 e))
     where
       P : Effect → Type 0
-      P = Effects b c (label ∷ d)
+      P = Noted b c (label ∷ d)
 
       n : ℕ
       n = recordsIn d
@@ -174,7 +233,8 @@ module _ (b : Board) (c : ℕ) where
 
       fit : isRecords FILES d ≡ true → distinct (labelsIn n d) ≡ true → needed n d ≤ length m → P (done (board next (laid n (length m) d)))
       fit e f g =
-          record {
+          as-done (label ∷ d) (board next (laid n (length m) d)) []
+          (record {
             own = refl;
             long = laid-length d e (length m) g;
             sound = λ p s.
@@ -191,16 +251,18 @@ module _ (b : Board) (c : ℕ) where
             memory = λ n. never (sym (rw w) ∙ n);
             others = λ n. never (sym w ∙ n);
             refused = λ n. absurd (n refl);
+            errors = λ n. rw z;
+            read = λ q. never (sym q ∙ r);
             quiet = λ n. refl;
             fits = omega arith;
-          }
+          })
 
-  special-effects : (d : List ℕ) → (c is E) ≡ true → Effects b c d (writeSpecial b d)
+  special-effects : (d : List ℕ) → (c is E) ≡ true → isRead c ≡ false → Noted b c d (writeSpecial b d)
   unfolding writeSpecial
-  special-effects [] t = refuses [] 22
-  special-effects (label ∷ d) t =
-      choice P (label is CONFIGURATION) (λ e. configure-effects label d (rw (t, e)))
-      (λ e. changes l (setBy s label d) (set-keeps (setsAddress c l) s d label (λ a. rw (t, a))))
+  special-effects [] t r = malformed []
+  special-effects (label ∷ d) t r =
+      choice (Noted b c l) (label is CONFIGURATION) (λ e. configure-effects label d (rw (t, e)) r (clear ∙ ap (λ (k : ℕ). k is CLEAR) (eqb-true label CONFIGURATION e)))
+      (λ e. changes l (setBy s label d) r (rw (← clear) at (set-keeps (setsAddress c l) s d label (λ a. rw (t, a)))))
     where
       l : List ℕ
       l = label ∷ d
@@ -208,44 +270,53 @@ module _ (b : Board) (c : ℕ) where
       s : Settings
       s = b .settings
 
-      P : Effect → Type 0
-      P = Effects b c l
+      clear : clears c l ≡ (label is CLEAR)
+      clear = rw t
 
   -- ---- F
-  tell-effects : (d : List ℕ) → isRead c ≡ true → Effects b c d (readSpecial b d)
-  unfolding readSpecial
-  tell-effects [] t = refuses [] 22
-  tell-effects (label ∷ d) t =
-      choice (Effects b c (label ∷ d)) (not (isTold label)) (λ e. refuses (label ∷ d) 21) (λ e.
-      choice (Effects b c (label ∷ d)) (not (none d)) (λ f. refuses (label ∷ d) 22) (λ f.
-      replies (label ∷ d) _ t (told-fits b label)))
+  tell-effects : (d : List ℕ) → (c is F) ≡ true → isRead c ≡ true → Noted b c d (readSpecial b d)
+  unfolding readSpecial afterTold
+  tell-effects [] t r = malformed []
+  tell-effects (label ∷ d) t r =
+      choice (Noted b c l) (not (isTold label)) (λ e. refuses l 21 (λ e. omega arith)) (λ e.
+      choice (Noted b c l) (not (none d)) (λ f. malformed l) (λ f.
+      rw clear at (replies l (replyOf E label (tell b label)) r (told-fits b label))))
+    where
+      l : List ℕ
+      l = label ∷ d
+
+      clear : clears c l ≡ (label is ERRORS)
+      clear = ap (λ (k : ℕ). clears k l) (eqb-true c F t)
 
 -- ---- the theorems
 
--- a fact of one command byte holds of a byte that is it
-is-code : (P : ℕ → Bool) (c k : ℕ) → P k ≡ true → (c is k) ≡ true → P c ≡ true
-is-code P c k t e = ap P (eqb-true c k e) ∙ t
-
 -- every command, with any data, on any board
-pub command-effects : (b : Board) (c : ℕ) (d : List ℕ) → Effects b c d (command b c d)
+command-effects : (b : Board) (c : ℕ) (d : List ℕ) → Noted b c d (command b c d)
 unfolding command isRead
 command-effects b c d =
-    choice P (c is A) (λ e. write-effects b c TEXT d (is-code w c A refl e)) (λ e.
-    choice P (c is G) (λ e. write-effects b c STRING d (is-code w c G refl e)) (λ e.
-    choice P (c is B) (λ e. read-effects b c TEXT A d (is-code isRead c B refl e)) (λ e.
-    choice P (c is H) (λ e. read-effects b c STRING G d (is-code isRead c H refl e)) (λ e.
-    choice P (c is E) (λ e. special-effects b c d e) (λ e.
-    choice P (c is F) (λ e. tell-effects b c d (is-code isRead c F refl e)) (λ e. refuses b c d 21))))))
+    choice P (c is A) (λ e. write-effects b c TEXT d (on w A true refl e) (on isRead A false refl e) (on z A false refl e)) (λ e.
+    choice P (c is G) (λ e. write-effects b c STRING d (on w G true refl e) (on isRead G false refl e) (on z G false refl e)) (λ e.
+    choice P (c is B) (λ e. read-effects b c TEXT A d (on isRead B true refl e) (on z B false refl e)) (λ e.
+    choice P (c is H) (λ e. read-effects b c STRING G d (on isRead H true refl e) (on z H false refl e)) (λ e.
+    choice P (c is E) (λ e. special-effects b c d e (on isRead E false refl e)) (λ e.
+    choice P (c is F) (λ e. tell-effects b c d e (on isRead F true refl e)) (λ e. refuses b c d 21 (λ e. omega arith)))))))
   where
     P : Effect → Type 0
-    P = Effects b c d
+    P = Noted b c d
 
     w : ℕ → Bool
     w x = writes x d
 
+    z : ℕ → Bool
+    z x = clears x d
+
+    -- a fact of one command byte holds of a byte that is it
+    on : (Q : ℕ → Bool) (k : ℕ) (x : Bool) → Q k ≡ x → (c is k) ≡ true → Q c ≡ x
+    on Q k x t e = ap Q (eqb-true c k e) ∙ t
+
 -- every block
 pub block-effects : (b : Board) (k : Block) → Effects b (k .command) (k .text) (runBlock b k)
-unfolding runBlock
+unfolding runBlock doBlock Noted
 block-effects b k =
-    choice (Effects b (k .command) (k .text)) (not (k .right)) (λ e. refuses b (k .command) (k .text) 20)
+    choice (Noted b (k .command) (k .text)) (not (k .right)) (λ e. refuses b (k .command) (k .text) 20 (λ e. omega arith))
     (λ e. command-effects b (k .command) (k .text))

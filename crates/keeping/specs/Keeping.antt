@@ -1,16 +1,20 @@
--- What every command keeps: a sound board sound, every byte of a file that it does not name, and the board where it is refused.
+-- What every command keeps: a sound board sound, every byte of a file that it does not name, and where it is refused the board, but for
+-- the serial error status register.
 use Prim.Native.Nat.{ℕ, _+_, _≤_}
 use mathlib.Core.Path.{_≡_}
 use mathlib.Core.List.{List, []}
 use mathlib.Core.Bool.{Bool, true, false, _&&_, _||_}
 use lib.ListN.{length, getD}
-use Rattle.octets.specs.Choice.{_is_, _!_, all}
-use Rattle.octets.specs.Bytes.{A, E, G, isPlain}
+use Rattle.octets.specs.Choice.{if_then_else_, _is_, _!_, all}
+use Rattle.octets.specs.Bytes.{A, E, F, G, isPlain}
 use Rattle.body.specs.Body.{isRead}
+use Rattle.register.specs.Register.{CLEARED}
+use Rattle.board.specs.Settings.{cleared}
 use Rattle.board.specs.Files.{File, filesOf}
 use Rattle.board.specs.Soundness.{holdsFiles, sound}
-use Rattle.effects.specs.Effects.{Board, Effect}
-use Rattle.special.specs.Special.{CONFIGURATION, setsAddress}
+use Rattle.effects.specs.Effects.{Board, board, Effect}
+use Rattle.effects.specs.Recording.{withFault}
+use Rattle.special.specs.Special.{CONFIGURATION, CLEAR, ERRORS, setsAddress}
 
 -- a sound board
 abbrev pub Sound : Board → Type 0
@@ -36,6 +40,10 @@ configures c d = c is E && d ! 0 is CONFIGURATION
 abbrev pub writes : ℕ → List ℕ → Bool
 writes c d = configures c d || c is A || c is G
 
+-- it clears the register, where it is done: E "4", F "*"
+abbrev pub clears : ℕ → List ℕ → Bool
+clears c d = if c is E then d ! 0 is CLEAR else c is F && d ! 0 is ERRORS
+
 -- what an effect of a command with these data keeps
 pub record Effects (b : Board) (c : ℕ) (d : List ℕ) (e : Effect) : Type 0 where
   -- own type and memory's length stay, and a sound board stays sound
@@ -49,8 +57,12 @@ pub record Effects (b : Board) (c : ℕ) (d : List ℕ) (e : Effect) : Type 0 wh
   -- a file of another label keeps every byte, of its record and of its content
   pub others : configures c d ≡ false → all isPlain d ≡ true → Holds b →
       (k : ℕ) → (fileOf b k .head ! 0 ≡ d ! 0 → ⊥) → fileOf (e .after) k ≡ fileOf b k
-  -- refused: the board as it was, and no reply
-  pub refused : (e .number ≡ 0 → ⊥) → (e .after ≡ b) × (e .reply ≡ [])
+  -- refused: no reply, and the board as it was but for the register, which is the old one with the bit of that number
+  pub refused : (e .number ≡ 0 → ⊥) → (e .after ≡ board (withFault (b .settings) (e .number)) (b .memory)) × (e .reply ≡ [])
+  -- done: the register as it was, "a bit stays until cleared"
+  pub errors : e .number ≡ 0 → e .after .settings .errors ≡ (if clears c d then CLEARED else b .settings .errors)
+  -- a read that is done leaves the board as it was; "*" clears the register, and that is all that a read may change
+  pub read : isRead c ≡ true → e .number ≡ 0 → e .after ≡ board (if clears c d then cleared (b .settings) else b .settings) (b .memory)
   -- only a read replies, and its reply has room in the shortest reply buffer
   pub quiet : isRead c ≡ false → e .reply ≡ []
   pub fits : length (e .reply) ≤ length (b .memory) + 64

@@ -3,11 +3,14 @@ use crate::truth::truth;
 use board::Settings;
 use board::soundness::sound;
 use sign::Answer;
+use sign::Driven;
 use sign::Made;
+use sign::errors::port_errors;
 use sign::fresh::fresh;
 use sign::run::run;
 ghost use mathlib.Core.Path.{_≡_};
 ghost use Rattle.board.specs.Soundness.{sound};
+ghost use Rattle.sign.specs.Errors.{portErrors};
 ghost use Rattle.sign.specs.Fresh.{making, fresh};
 ghost use Rattle.sign.specs.Run.{outcome, run};
 ghost use Rattle.port.specs.Truth.{truth};
@@ -39,4 +42,12 @@ pub extern "C" fn pagozkin_run(
     ensures { λ r. ⌜ outcome r (now (memory .exit)) (now (reply .exit)) ≡ run settings (now (memory .entry)) (now (reply .entry)) (now (frame .entry)) ⌝ }
 {
     run(settings, memory, reply, frame)
+}
+
+// What the port driver saw comes into the serial error status register: 0, or 1.
+#[no_mangle]
+pub extern "C" fn pagozkin_port_errors(settings: Settings, bits: u8) -> Driven
+    ensures { λ r. ⌜ r ≡ portErrors settings bits ⌝ }
+{
+    port_errors(settings, bits)
 }

@@ -242,6 +242,7 @@ fn print_settings(s: Settings) {
     space();
     print_signed(widen_byte(s.offset));
     space();
+    io::print_decimal(STDOUT_FILENO, s.errors as u64);
 }
 
 fn print_tally(t: Tally) {
@@ -258,10 +259,12 @@ fn print_answer(r: Answer) {
     print_tally(tally);
     let next = r.settings;
     print_settings(next);
+    space();
 }
 
-// The settings string: a byte for each of the ten settings, two for the unused amount and for each label's place, one for the offset.
-const SETTINGS: usize = 203;
+// The settings string: a byte for each of the ten settings, two for the unused amount and for each label's place, one for the offset
+// and one for the register.
+const SETTINGS: usize = 204;
 
 fn places(set: &[u8]) -> [u16; 95]
     requires { ⌜ 202 ≤ length (now set) ⌝ }
@@ -276,7 +279,7 @@ fn places(set: &[u8]) -> [u16; 95]
 }
 
 fn settings(set: &[u8]) -> Settings
-    requires { ⌜ 203 ≤ length (now set) ⌝ }
+    requires { ⌜ 204 ≤ length (now set) ⌝ }
 {
     Settings {
         hour: set[0],
@@ -292,6 +295,7 @@ fn settings(set: &[u8]) -> Settings
         unused: two(set[10], set[11]),
         places: places(set),
         offset: from_byte(set[202]),
+        errors: set[203],
     }
 }
 
@@ -336,6 +340,7 @@ fn call_n(own: u8, memory: &mut [u8]) -> bool {
     number(r.number as u64);
     let next = r.settings;
     print_settings(next);
+    space();
     string(memory);
     line();
     true
@@ -492,6 +497,31 @@ fn case_t() -> bool {
     call_t(offset, reading)
 }
 
+fn call_p(set: &[u8], bits: u8) -> bool {
+    if set.len() != SETTINGS {
+        return bad();
+    }
+    let r = sign::errors::port_errors(settings(set), bits);
+    number(r.number as u64);
+    let next = r.settings;
+    print_settings(next);
+    line();
+    true
+}
+
+fn case_p() -> bool {
+    let mut set = [0u8; SETTINGS + 1];
+    let s = read_string(&mut set);
+    let Byte::Is(bits) = read_number() else {
+        return bad();
+    };
+    if !s.whole {
+        return bad();
+    }
+    let n = s.count;
+    call_p(&set[..n], bits)
+}
+
 // The arrays are main's, so that they are made once; each case has as much of them as it read.
 // A callee that takes an array, and no slice, asks no proof of its length.
 fn one_case(a: &mut [u8; 65535], b: &mut [u8; 65535], c: &mut [u8; 65535]) -> bool {
@@ -524,6 +554,9 @@ fn one_case(a: &mut [u8; 65535], b: &mut [u8; 65535], c: &mut [u8; 65535]) -> bo
     }
     if call == b'T' {
         return case_t();
+    }
+    if call == b'P' {
+        return case_p();
     }
     bad()
 }

@@ -1,16 +1,18 @@
 -- The definitions of the base, under one name.
 use Rattle.dates.specs.Calendar.{february, monthLength, isDate}
 use Rattle.temperature.specs.Offset.{isSignedDigit, signedDigit, isOffset}
+use Rattle.register.specs.Register.{isRegister}
 use Rattle.board.specs.Settings.{inRange}
 use Rattle.board.specs.Files.{sizeOf, filesOf, heads, used, unused, labels, distinct, isAt, find}
 use Rattle.board.specs.Index.{entry, namesEach, namesNoOther, isIndex, entered, indexOf}
 use Rattle.board.specs.Soundness.{isLabel, isKind, isProtection, isSize, isStartCode, isStopCode, isCodes, isRecord, isContent, isFileAt, holdsFiles, soundMemory, keepsTrue, sound}
 use Rattle.effects.specs.Reply.{replyOf}
+use Rattle.effects.specs.Recording.{faultNoted}
 use Rattle.commands.specs.Commands.{holding, putMessage, writeFile, getContent, readFile}
 use Rattle.records.specs.Records.{isRecords, labelsIn, neededBy, needed, refusal, sizeIn, stored, laid}
 use Rattle.special.specs.Configuration.{configure}
-use Rattle.special.specs.Special.{setTime, setSpeaker, setFormat, setDate, setAddress, setOffset, setBy, writeSpecial, tellTime, tellDate, tellSpeaker, tellPool, isTold, tell, readSpecial}
-use Rattle.commands.specs.Blocks.{command, runBlock}
+use Rattle.special.specs.Special.{setTime, setSpeaker, setFormat, setDate, setAddress, setOffset, clearErrors, setBy, writeSpecial, tellTime, tellDate, tellSpeaker, tellPool, isTold, tell, afterTold, readSpecial}
+use Rattle.commands.specs.Blocks.{command, doBlock, runBlock}
 use Rattle.sign.specs.Run.{count, measure, onto, runBlocks, runFrame, run}
 use Rattle.sign.specs.Fresh.{fresh}
 use Rattle.sign.specs.Packing.{setsNoAddress}
@@ -22,15 +24,17 @@ unfolding
     writes
     february monthLength isDate
     isSignedDigit signedDigit isOffset
+    isRegister
     inRange
     sizeOf filesOf heads used unused labels distinct isAt find
     entry namesEach namesNoOther isIndex entered indexOf
     isLabel isKind isProtection isSize isStartCode isStopCode isCodes isRecord isContent isFileAt holdsFiles soundMemory keepsTrue sound
-    replyOf
+    replyOf faultNoted
     holding putMessage writeFile getContent readFile
     isRecords labelsIn neededBy needed refusal sizeIn stored laid configure
-    setTime setSpeaker setFormat setDate setAddress setOffset setBy writeSpecial tellTime tellDate tellSpeaker tellPool isTold tell readSpecial
-    command runBlock
+    setTime setSpeaker setFormat setDate setAddress setOffset clearErrors setBy writeSpecial
+    tellTime tellDate tellSpeaker tellPool isTold tell afterTold readSpecial
+    command doBlock runBlock
     count measure onto runBlocks runFrame run
     fresh
     setsNoAddress

@@ -2,6 +2,7 @@
 pub mod Adding
 pub mod RunLaws
 pub mod Steady
+pub mod PortErrors
 pub mod PackingLaws
 pub mod Alike
 pub mod Unique

@@ -5,7 +5,7 @@ use mathlib.Core.List.{List, [], _∷_}
 use mathlib.Core.Bool.{true, false, not}
 use native.Mathlib.Omega.{arith}
 use lib.ListN.{length}
-use borrow.Author.Tests.{ltb-false, not-false, not-true}
+use borrow.Author.Tests.{eqb-true, eqb-false, ltb-false, not-false, not-true}
 use Rattle.octets.specs.Choice.{_is_, _<?_}
 use Rattle.octets.specs.Buffer.{zeros, overlay}
 use Rattle.octets.proofs.Tests.{by-test, choice, never, split}
@@ -17,6 +17,7 @@ use Rattle.body.proofs.Plain.{Plain}
 use Rattle.reading.specs.Reading.{Reading, refused, frame, read}
 use Rattle.reading.proofs.FrameLaws.{read-plain}
 use Rattle.temperature.specs.Offset.{isOffset}
+use Rattle.register.specs.Register.{bit, isRegister}
 use Rattle.board.specs.Settings.{inRange, withFiles}
 use Rattle.board.specs.Files.{filesOf, used, unused, labels, distinct}
 use Rattle.board.specs.Index.{ENTRIES, isIndex, entered}
@@ -27,14 +28,18 @@ use Rattle.board.proofs.Contents.{zeros-nul}
 use Rattle.board.proofs.Inside.{sound-ranged, sound-unused, sound-index, sound-distinct}
 use Rattle.board.proofs.Indexing.{index-true, index-one}
 use Rattle.board.proofs.SoundParts.{whole, kept-true, sound-whole}
-use Rattle.effects.specs.Effects.{board}
+use Rattle.effects.specs.Effects.{Board, board}
+use Rattle.effects.specs.Recording.{faultNoted}
+use Rattle.effects.proofs.Faults.{fault-stays}
 use Rattle.commands.specs.Blocks.{runBlock}
 use Rattle.special.specs.Special.{setsAddress}
-use Rattle.keeping.specs.Keeping.{Sound}
+use Rattle.keeping.specs.Keeping.{clears, Sound}
 use Rattle.keeping.proofs.Keeping.{block-effects}
 use Rattle.sign.specs.Run.{nothing, count, measure, State, state, onto, runBlocks, Outcome, untouched, runFrame, run}
 use Rattle.sign.specs.Fresh.{Making, freshSettings, fresh}
 use Rattle.sign.specs.Packing.{setsNoAddress}
+use Rattle.sign.specs.Errors.{faultsNoted, clearsNone}
+use Rattle.sign.specs.Counts.{blockNumbers}
 use Rattle.sign.specs.declared.Tally.{Tally}
 
 -- ---- blocks
@@ -51,6 +56,7 @@ pub record Passed (ks : List Block) (st x : State) : Type 0 where
   pub buffer : length (st .now .memory) + 64 ≤ length (st .buffer) → length (x .buffer) ≡ length (st .buffer)
   pub sound : Plain ks → Sound (st .now) → Sound (x .now)
   pub address : setsNoAddress ks ≡ true → x .now .settings .address ≡ st .now .settings .address
+  pub errors : clearsNone ks ≡ true → x .now .settings .errors ≡ faultsNoted (st .now .settings .errors) (blockNumbers (st .now) ks)
   pub quiet : NoReads ks → (x .buffer ≡ st .buffer) × (x .counts .length ≡ st .counts .length)
 
 -- a block without a reply
@@ -61,11 +67,36 @@ length-none t n s e =
     (choice (λ (u : Tally). u .length ≡ t .length) (n is 0) (λ e. refl)
     (λ e. choice (λ (u : Tally). u .length ≡ t .length) (t .reason is 0) (λ e. refl) (λ e. refl)))
 
+-- a block that does not clear the register leaves it with the bit of its number
+block-errors : (b : Board) (k : Block) → clears (k .command) (k .text) ≡ false →
+    runBlock b k .after .settings .errors ≡ faultNoted (b .settings .errors) (runBlock b k .number)
+unfolding faultNoted
+block-errors b k n =
+    let f = block-effects b k in
+    let x = runBlock b k in
+    by-test (x .number is 0)
+    (λ e. let z = eqb-true (x .number) 0 e in f .errors z ∙ rw (n, z))
+    (λ e. ap (λ (y : Board). y .settings .errors) (f .refused (eqb-false (x .number) 0 e) .0))
+
+-- a bit that is set stays, whatever the numbers
+faults-stay : (ns : List ℕ) (r k : ℕ) → bit r k ≡ 1 → bit (faultsNoted r ns) k ≡ 1
+unfolding faultsNoted
+faults-stay [] r k h = h
+faults-stay (n ∷ ns) r k h = faults-stay ns (faultNoted r n) k (fault-stays r n k h)
+
 -- blocks, from any state
 pub run-passed : (ks : List Block) (st : State) → Passed ks st (runBlocks st ks)
-unfolding runBlocks onto setsNoAddress
+unfolding runBlocks onto setsNoAddress clearsNone blockNumbers faultsNoted
 run-passed [] st =
-    record { own = refl; memory = refl; buffer = λ h. refl; sound = λ p s. s; address = λ n. refl; quiet = λ n. (refl, refl) }
+    record {
+      own = refl;
+      memory = refl;
+      buffer = λ h. refl;
+      sound = λ p s. s;
+      address = λ n. refl;
+      errors = λ n. refl;
+      quiet = λ n. (refl, refl);
+    }
 run-passed (k ∷ ks) st =
     let x = runBlock (st .now) k in
     let f = block-effects (st .now) k in
@@ -80,6 +111,10 @@ run-passed (k ∷ ks) st =
       address = λ n.
           let p = split (not (setsAddress (k .command) (k .text))) n in
           i .address (p .1) ∙ f .address (not-true (setsAddress (k .command) (k .text)) (p .0));
+      errors = λ n.
+          let p = split (not (clears (k .command) (k .text))) n in
+          let e = block-errors (st .now) k (not-true (clears (k .command) (k .text)) (p .0)) in
+          i .errors (p .1) ∙ ap (λ (r : ℕ). faultsNoted r (blockNumbers (x .after) ks)) e;
       quiet = λ n.
           let r = f .quiet (n .0) in
           let q = i .quiet (n .1) in
@@ -93,6 +128,11 @@ abbrev pub SetsNone : Reading → Type 0
 SetsNone (refused n) = Unit {0}
 SetsNone (frame h bs) = setsNoAddress bs ≡ true
 
+-- the register e is that of settings s with what blocks of a frame have set, where none of them clears it
+abbrev pub Noted : Settings → List ℕ → Reading → ℕ → Type 0
+Noted s m (refused n) e = Unit {0}
+Noted s m (frame h bs) e = clearsNone bs ≡ true → e ≡ faultsNoted (s .errors) (blockNumbers (board s m) bs)
+
 -- what a run keeps, by what was read
 pub record Steady (s : Settings) (m o : List ℕ) (r : Reading) (x : Outcome) : Type 0 where
   pub own : x .answer .settings .own ≡ s .own
@@ -100,19 +140,20 @@ pub record Steady (s : Settings) (m o : List ℕ) (r : Reading) (x : Outcome) : 
   pub reply : length (x .reply) ≡ length o
   pub sound : sound s m ≡ true → Sound (board (x .answer .settings) (x .memory))
   pub address : SetsNone r → x .answer .settings .address ≡ s .address
+  pub errors : x .answer .number ≡ 0 → Noted s m r (x .answer .settings .errors)
   pub refused : (x .answer .number ≡ 0 → ⊥) → x ≡ untouched (x .answer .number) s m o
 
-untouched-steady : (s : Settings) (m o : List ℕ) (r : Reading) (n : ℕ) → Steady s m o r (untouched n s m o)
-untouched-steady s m o r n =
-    record { own = refl; memory = refl; reply = refl; sound = λ e. e; address = λ e. refl; refused = λ e. refl }
+untouched-steady : (s : Settings) (m o : List ℕ) (r : Reading) (n : ℕ) → (n ≡ 0 → Noted s m r (s .errors)) → Steady s m o r (untouched n s m o)
+untouched-steady s m o r n z =
+    record { own = refl; memory = refl; reply = refl; sound = λ e. e; address = λ e. refl; errors = z; refused = λ e. refl }
 
 frame-steady : (s : Settings) (m o f : List ℕ) → length m + 64 ≤ length o → (r : Reading) → read f ≡ r →
     Steady s m o r (runFrame s m o r)
 unfolding runFrame
-frame-steady s m o f l (refused n) e = untouched-steady s m o (refused n) n
+frame-steady s m o f l (refused n) e = untouched-steady s m o (refused n) n (λ z. tt)
 frame-steady s m o f l (frame h bs) e =
     let p = run-passed bs (state (board s m) o nothing) in
-    choice (Steady s m o (frame h bs)) (not (addressed (s .own) (s .address) h)) (λ a. untouched-steady s m o (frame h bs) 9)
+    choice (Steady s m o (frame h bs)) (not (addressed (s .own) (s .address) h)) (λ a. untouched-steady s m o (frame h bs) 9 (λ z. absurd (omega arith)))
     (λ a.
     record {
       own = p .own;
@@ -120,6 +161,7 @@ frame-steady s m o f l (frame h bs) e =
       reply = p .buffer l;
       sound = λ g. p .sound (read-plain f h bs e .blocks .plain) g;
       address = p .address;
+      errors = λ z. p .errors;
       refused = λ n. absurd (n refl);
     })
 
@@ -127,8 +169,8 @@ frame-steady s m o f l (frame h bs) e =
 pub run-steady : (s : Settings) (m o f : List ℕ) → Steady s m o (read f) (run s m o f)
 unfolding run
 run-steady s m o f =
-    choice (Steady s m o (read f)) (not (sound s m)) (λ e. untouched-steady s m o (read f) 1)
-    (λ e. choice (Steady s m o (read f)) (length o <? length m + 64) (λ g. untouched-steady s m o (read f) 2)
+    choice (Steady s m o (read f)) (not (sound s m)) (λ e. untouched-steady s m o (read f) 1 (λ z. absurd (omega arith)))
+    (λ e. choice (Steady s m o (read f)) (length o <? length m + 64) (λ g. untouched-steady s m o (read f) 2 (λ z. absurd (omega arith)))
     (λ g. frame-steady s m o f (ltb-false (length o) (length m + 64) g) (read f) refl))
 
 -- 1 "board not sound"
@@ -146,6 +188,18 @@ pub run-untouched : (s : Settings) (m o f : List ℕ) → (run s m o f .answer .
     run s m o f ≡ untouched (run s m o f .answer .number) s m o
 run-untouched s m o f n = run-steady s m o f .refused n
 
+-- request 10, where no block clears the register: it is the old one with the bit of each block's number, and nothing else
+module _ (s : Settings) (m o f h : List ℕ) (bs : List Block) (e : read f ≡ frame h bs) (n : clearsNone bs ≡ true) where
+  pub run-faults : run s m o f .answer .number ≡ 0 → run s m o f .answer .settings .errors ≡ faultsNoted (s .errors) (blockNumbers (board s m) bs)
+  run-faults z = (rw e at (run-steady s m o f .errors z)) n
+
+  -- "a bit stays until cleared"
+  pub run-bits : (k : ℕ) → bit (s .errors) k ≡ 1 → bit (run s m o f .answer .settings .errors) k ≡ 1
+  run-bits k g =
+      by-test (run s m o f .answer .number is 0)
+      (λ z. rw (run-faults (eqb-true _ 0 z)) (faults-stay (blockNumbers (board s m) bs) (s .errors) k g))
+      (λ z. rw (run-untouched s m o f (eqb-false _ 0 z)) g)
+
 -- ---- a fresh board
 
 abbrev SoundIfMade : Making → Type 0
@@ -154,7 +208,7 @@ SoundIfMade x = x .answer .number ≡ 0 → sound (x .answer .settings) (x .memo
 -- a fresh board that was made is sound
 pub fresh-sound : (t : ℕ) (m : List ℕ) → fresh t m .answer .number ≡ 0 →
     sound (fresh t m .answer .settings) (fresh t m .memory) ≡ true
-unfolding fresh inRange isOffset holdsFiles labels filesOf distinct used unused entered
+unfolding fresh inRange isOffset isRegister holdsFiles labels filesOf distinct used unused entered
 fresh-sound t m =
     choice SoundIfMade (not (isOwnType t)) (λ e z. absurd (omega arith)) (λ e.
     choice SoundIfMade (not (isMemory (length m))) (λ g z. absurd (omega arith)) (λ g z.
@@ -175,6 +229,10 @@ fresh-sound t m =
 sound-offset : (s : Settings) (m : List ℕ) → sound s m ≡ true → isOffset (s .offset) ≡ true
 sound-offset s m e = range s (sound-ranged s m e) .offset
 
+-- request 10: its register has its fixed bits
+sound-errors : (s : Settings) (m : List ℕ) → sound s m ≡ true → isRegister (s .errors) ≡ true
+sound-errors s m e = range s (sound-ranged s m e) .errors
+
 -- after any run that is not refused because its board is not sound
 module _ (s : Settings) (m o f : List ℕ) (n : run s m o f .answer .number ≡ 1 → ⊥) where
   left-sound : sound (run s m o f .answer .settings) (run s m o f .memory) ≡ true
@@ -192,6 +250,10 @@ module _ (s : Settings) (m o f : List ℕ) (n : run s m o f .answer .number ≡ 
   -- request 9: so that the call which adds the offset to a reading never answers 1 for it
   pub run-offset : isOffset (run s m o f .answer .settings .offset) ≡ true
   run-offset = sound-offset (run s m o f .answer .settings) (run s m o f .memory) left-sound
+
+  -- request 10: so that the port driver's call never answers 1 for it
+  pub run-errors : isRegister (run s m o f .answer .settings .errors) ≡ true
+  run-errors = sound-errors (run s m o f .answer .settings) (run s m o f .memory) left-sound
 
 -- and after any fresh board that was made
 pub fresh-unused : (t : ℕ) (m : List ℕ) → fresh t m .answer .number ≡ 0 →
@@ -223,6 +285,10 @@ run-twice s m o f n = run-not s m o f (λ e. never (sym (sound-distinct s m e) �
 -- request 9, "1 for an offset outside -9 to 9"
 pub run-wrong-offset : (s : Settings) (m o f : List ℕ) → isOffset (s .offset) ≡ false → run s m o f ≡ untouched 1 s m o
 run-wrong-offset s m o f n = run-not s m o f (λ e. never (sym (sound-offset s m e) ∙ n))
+
+-- request 10, "1 for a register whose fixed bits are not as the table has them"
+pub run-wrong-errors : (s : Settings) (m o f : List ℕ) → isRegister (s .errors) ≡ false → run s m o f ≡ untouched 1 s m o
+run-wrong-errors s m o f n = run-not s m o f (λ e. never (sym (sound-errors s m e) ∙ n))
 
 -- of the boards that differ in nothing but the index, all but the sound one
 pub run-other-index : (s : Settings) (m o f : List ℕ) → sound s m ≡ true → length (s .places) ≡ ENTRIES →

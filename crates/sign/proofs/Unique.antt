@@ -1,11 +1,13 @@
--- A run has one outcome, and so has the making of a fresh board; and what is computed of a run holds of whatever keeps its promise.
+-- A run has one outcome, and so have the making of a fresh board and the port driver's call; and what is computed of a run holds of whatever keeps its promise.
 use Prim.Native.Nat.{ℕ}
 use mathlib.Core.Path.{_≡_, sym, ap, _∙_}
 use mathlib.Core.List.{List}
 use Rattle.board.specs.declared.Settings.{Settings}
 use Rattle.sign.specs.Run.{Outcome, outcome, run}
 use Rattle.sign.specs.Fresh.{Making, making, fresh}
+use Rattle.sign.specs.Errors.{portErrors}
 use Rattle.sign.specs.declared.Answer.{Answer}
+use Rattle.sign.specs.declared.Driven.{Driven}
 use Rattle.sign.specs.declared.Made.{Made}
 
 -- the parts of one outcome
@@ -28,3 +30,7 @@ module _ (t : ℕ) (m : List ℕ) {r r′ : Made} {a a′ : List ℕ} (p : makin
   -- whatever keeps the promise of `fresh`: one answer, one memory
   pub fresh-unique : making r′ a′ ≡ fresh t m → (r ≡ r′) × (a ≡ a′)
   fresh-unique q = making-parts (p ∙ sym q)
+
+-- whatever keeps the promise of `port_errors`: one answer
+pub driven-unique : (s : Settings) (bits : ℕ) (r r′ : Driven) → r ≡ portErrors s bits → r′ ≡ portErrors s bits → r ≡ r′
+driven-unique s bits r r′ p q = p ∙ sym q

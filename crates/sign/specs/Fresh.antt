@@ -7,6 +7,7 @@ use lib.IntN.{pos}
 use Rattle.octets.specs.Choice.{if_then_else_}
 use Rattle.octets.specs.Buffer.{zeros}
 use Rattle.header.specs.Addressing.{isOwnType}
+use Rattle.register.specs.Register.{CLEARED}
 use Rattle.board.specs.Settings.{FORMAT-S, OFF, settings}
 use Rattle.board.specs.Index.{ENTRIES, noEntries}
 use Rattle.board.specs.Soundness.{isMemory}
@@ -32,16 +33,17 @@ makes n s m = making (madeAs n s) m
 
 -- "settings from 10 or 11 all zero"
 abbrev pub allZero : Settings
-allZero = settings 0 0 0 0 0 0 0 0 0 0 0 (replicate ENTRIES 0) (pos 0)
+allZero = settings 0 0 0 0 0 0 0 0 0 0 0 (replicate ENTRIES 0) (pos 0) 0
 
 -- "memory untouched"
 abbrev pub unmade : ℕ → List ℕ → Making
 unmade n m = makes n allZero m
 
 -- "A fresh board has 00:00, 01 01 00, format S, speaker off, address 00, no files", and its own type; request 3: all of its memory,
--- so many bytes, is unused; request 7: no label has a record; request 9: "Fresh boards hold 0."
+-- so many bytes, is unused; request 7: no label has a record; request 9: "Fresh boards hold 0."; request 10: "A fresh register is a
+-- cleared one."
 abbrev pub freshSettings : ℕ → ℕ → Settings
-freshSettings t n = settings 0 0 1 1 0 FORMAT-S OFF 0 t 0 n noEntries (pos 0)
+freshSettings t n = settings 0 0 1 1 0 FORMAT-S OFF 0 t 0 n noEntries (pos 0) CLEARED
 
 -- a fresh board: "memory all zero"; "Fresh: 10, 11": 10 "wrong type", 11 "wrong memory length"
 unfoldable pub fresh : ℕ → List ℕ → Making

@@ -9,6 +9,7 @@ use board::setting::OFF;
 use board::soundness::is_memory;
 use buffers::copying::zero_at;
 use frame::is_own_type;
+use register::CLEARED;
 ghost use mathlib.Core.Path.{_≡_};
 ghost use Rattle.sign.specs.Fresh.{making, allZero, freshSettings, fresh, madeAs};
 
@@ -32,12 +33,13 @@ fn unmade(number: u8) -> Made
             unused: 0,
             places: [0; 95],
             offset: 0,
+            errors: 0,
         },
     }
 }
 
 // "00:00, 01 01 00, format S, speaker off, address 00, no files"; request 3: all of memory is unused; request 7: no label has a
-// record; request 9: "Fresh boards hold 0."
+// record; request 9: "Fresh boards hold 0."; request 10: "A fresh register is a cleared one."
 fn made(own: u8, unused: u16) -> Made
     ensures { λ r. ⌜ r ≡ madeAs 0 (freshSettings own unused) ⌝ }
 {
@@ -57,6 +59,7 @@ fn made(own: u8, unused: u16) -> Made
             unused,
             places: [NOWHERE; 95],
             offset: 0,
+            errors: CLEARED,
         },
     }
 }

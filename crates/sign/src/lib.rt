@@ -1,6 +1,7 @@
-// Fresh boards and whole runs. The definitions are in specs/. C lays the three structs out alike.
+// Fresh boards, whole runs and the port driver's call. The definitions are in specs/. C lays the four structs out alike.
 use board::Settings;
 
+pub mod errors;
 pub mod fresh;
 pub mod numbers;
 pub mod run;
@@ -26,6 +27,13 @@ pub struct Answer {
 // What the making of a fresh board answers.
 #[repr(C)]
 pub struct Made {
+    pub number: u8,
+    pub settings: Settings,
+}
+
+// What the port driver's call answers.
+#[repr(C)]
+pub struct Driven {
     pub number: u8,
     pub settings: Settings,
 }

@@ -122,7 +122,7 @@ fn run_one(ran: Ran, m: &mut [u8], command: u8, text: &[u8], right: bool, out: &
     }
 }
 
-// The blocks in order, taken by the reader; a refused block changes nothing, and the blocks behind it run.
+// The blocks in order, taken by the reader; a refused block changes nothing but the register, and the blocks behind it run.
 fn run_blocks(s: Settings, m: &mut [u8], out: &mut [u8], t: &[u8], from: usize) -> Ran
     requires { ⌜ Running s (now m) (now out) (now t) from ⌝ }
     ensures { λ r. ⌜ stateAs r (now (m .exit)) (now (out .exit)) ≡ runBlocks (state (board s (now (m .entry))) (now (out .entry)) nothing) (blocksAt (now (t .entry)) from) ⌝ }

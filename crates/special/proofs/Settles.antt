@@ -23,12 +23,12 @@ use Rattle.octets.proofs.Told.{two-none, two-some}
 use Rattle.signed.proofs.Held.{held}
 use Rattle.temperature.proofs.Signs.{two-long, second-digit}
 use Rattle.temperature.specs.Offset.{isSignedDigit, signedDigit}
-use Rattle.board.specs.Settings.{FORMAT-S, FORMAT-M, OFF, ON, inDate, withTime, withDate, withFormat, withSpeaker, withAddress, withOffset}
+use Rattle.board.specs.Settings.{FORMAT-S, FORMAT-M, OFF, ON, inDate, withTime, withDate, withFormat, withSpeaker, withAddress, withOffset, cleared}
 use Rattle.board.specs.declared.Settings.{Settings}
 use Rattle.effects.specs.Effects.{board}
 use Rattle.special.specs.Configuration.{configure}
-use Rattle.special.specs.Special.{TIME, SPEAKER, CONFIGURATION, FORMAT, ADDRESS, DATE, OFFSET}
-use Rattle.special.specs.Special.{Change, to, malformed, unknown, setTime, setSpeaker, setFormat, setDate, setAddress, setOffset, setBy, change, writeSpecial}
+use Rattle.special.specs.Special.{TIME, SPEAKER, CONFIGURATION, FORMAT, ADDRESS, DATE, OFFSET, CLEAR}
+use Rattle.special.specs.Special.{Change, to, malformed, unknown, setTime, setSpeaker, setFormat, setDate, setAddress, setOffset, clearErrors, setBy, change, writeSpecial}
 use Rattle.effects.specs.Leaving.{doneAs, Acts}
 use Rattle.special.specs.Changing.{changed}
 use Rattle.effects.specs.declared.Done.{Done}
@@ -185,6 +185,21 @@ module _ (s : Settings) (d : List ℕ) (b : Bool) (e : b ≡ isSignedDigit d) wh
 
 pub ruleset offsetting = (answered, offset-other, offset-first, offset-second, offset-digit, offset-right, needs)
 
+-- ---- the register
+
+module _ (s : Settings) where
+  pub clear-excess : (d : List ℕ) → (length d ≡ 0 → ⊥) → malformed s ≡ clearErrors s d
+  unfolding clearErrors
+  clear-excess [] n = absurd (n refl)
+  clear-excess (x ∷ d) n = refl
+
+  pub clear-right : (d : List ℕ) → length d ≡ 0 → (r : Settings) → r ≡ cleared s → to r ≡ clearErrors s d
+  unfolding clearErrors
+  clear-right [] l r g = ap to g
+  clear-right (x ∷ d) l r g = absurd (omega arith)
+
+pub ruleset clearing = (answered, clear-excess, clear-right, needs)
+
 -- ---- one of them, by its label
 
 module _ (s : Settings) (l : ℕ) (d : List ℕ) where
@@ -193,9 +208,18 @@ module _ (s : Settings) (l : ℕ) (d : List ℕ) where
   set-labelled k r e h = rw e h
 
   pub set-none : (l ≡ TIME → ⊥) → (l ≡ SPEAKER → ⊥) → (l ≡ FORMAT → ⊥) → (l ≡ ADDRESS → ⊥) → (l ≡ DATE → ⊥) →
-      (l ≡ OFFSET → ⊥) → unknown s ≡ setBy s l d
+      (l ≡ OFFSET → ⊥) → (l ≡ CLEAR → ⊥) → unknown s ≡ setBy s l d
   unfolding setBy
-  set-none a b c f e g = rw (ne-eqb l TIME a, ne-eqb l SPEAKER b, ne-eqb l FORMAT c, ne-eqb l DATE e, ne-eqb l ADDRESS f, ne-eqb l OFFSET g)
+  set-none a b c f e g h =
+      rw (
+        ne-eqb l TIME a,
+        ne-eqb l SPEAKER b,
+        ne-eqb l FORMAT c,
+        ne-eqb l DATE e,
+        ne-eqb l ADDRESS f,
+        ne-eqb l OFFSET g,
+        ne-eqb l CLEAR h,
+      )
 
 pub ruleset labelled = (answered, set-labelled, set-none, needs)
 

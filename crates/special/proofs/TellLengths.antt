@@ -13,7 +13,7 @@ use Rattle.board.specs.Files.{sizeOf, filesOf, heads}
 use Rattle.effects.specs.Reply.{replyOf}
 use Rattle.effects.specs.Effects.{Board}
 use Rattle.effects.proofs.ReplyLengths.{reply-length}
-use Rattle.special.specs.Special.{TIME, SPEAKER, FORMAT, DATE, CONFIGURATION, tellSpeaker, tellPool, tell, tellTime, tellDate}
+use Rattle.special.specs.Special.{TIME, SPEAKER, FORMAT, DATE, CONFIGURATION, ERRORS, tellSpeaker, tellPool, tell, tellTime, tellDate}
 
 -- the records of memory are no longer than memory
 pub heads-length : (n : ℕ) (r : List ℕ) → length (heads (filesOf n r)) ≤ length r
@@ -30,7 +30,8 @@ tell-length b label =
     choice P (label is SPEAKER) (λ e. choice P (b .settings .speaker is ON) (λ e. omega arith) (λ e. omega arith)) (λ e.
     choice P (label is FORMAT) (λ e. omega arith) (λ e.
     choice P (label is DATE) (λ e. omega arith) (λ e.
-    choice P (label is CONFIGURATION) (λ e. omega (arith, heads-length (b .settings .files) (b .memory))) (λ e. omega arith)))))
+    choice P (label is CONFIGURATION) (λ e. omega (arith, heads-length (b .settings .files) (b .memory))) (λ e.
+    choice P (label is ERRORS) (λ e. omega arith) (λ e. omega arith))))))
   where
     P : List ℕ → Type 0
     P l = length l ≤ length (b .memory) + 31

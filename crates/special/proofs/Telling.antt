@@ -16,11 +16,11 @@ use Rattle.octets.specs.Bytes.{COMMA, ZERO, E, F}
 use Rattle.octets.specs.Hex.{inHex4}
 use Rattle.octets.specs.Decimal.{inDecimal2}
 use Rattle.octets.specs.Buffer.{splice}
-use Rattle.octets.proofs.Tests.{by-test}
+use Rattle.octets.proofs.Tests.{by-test, choice}
 use Rattle.octets.proofs.Buffers.{length-splice}
 use Rattle.octets.proofs.Ranges.{on}
 use Rattle.buffers.proofs.Splices.{splice-none, splice-next, splice-in, overlay-covers}
-use Rattle.board.specs.Settings.{ON, inRange}
+use Rattle.board.specs.Settings.{ON, inRange, withErrors, cleared}
 use Rattle.board.specs.Files.{sizeOf, filesOf, heads, unused}
 use Rattle.board.specs.Soundness.{holdsFiles, sound}
 use Rattle.board.specs.declared.Settings.{Settings}
@@ -29,8 +29,8 @@ use Rattle.board.proofs.Walking.{Standing, room, stand-start, stand-next, stand
 use Rattle.board.proofs.Inside.{sound-ranged, sound-held, sound-least, sound-most, sound-unused, heads-step, heads-none}
 use Rattle.effects.specs.Reply.{replyOf}
 use Rattle.effects.specs.Effects.{Board, board, replied, refuse}
-use Rattle.special.specs.Special.{TIME, SPEAKER, POOL, CONFIGURATION, FORMAT, DATE}
-use Rattle.special.specs.Special.{tellTime, tellDate, tellSpeaker, tellPool, isTold, tell, readSpecial}
+use Rattle.special.specs.Special.{TIME, SPEAKER, POOL, CONFIGURATION, FORMAT, DATE, ERRORS}
+use Rattle.special.specs.Special.{tellTime, tellDate, tellSpeaker, tellPool, isTold, tell, afterTold, readSpecial}
 use Rattle.effects.specs.Leaving.{doneAs, Replied, Told, Tells, Ready}
 use Rattle.effects.specs.declared.Done.{Done}
 use Rattle.effects.proofs.ReplyLengths.{reply-length}
@@ -41,9 +41,9 @@ use Rattle.effects.proofs.Outcomes.{tells-refused, tells-replied}
 
 -- a label, by where it stands among the bytes
 module _ (l : ℕ) where
-  pub told-key : (l ≡ FORMAT) ⊎ (l ≡ DATE) → true ≡ isTold l
+  pub told-key : (l ≡ FORMAT) ⊎ ((l ≡ ERRORS) ⊎ (l ≡ DATE)) → true ≡ isTold l
   unfolding isTold
-  told-key h = ⊎-elim (λ e. rw e) (λ e. rw e) h
+  told-key h = ⊎-elim (λ e. rw e) (⊎-elim (λ e. rw e) (λ e. rw e)) h
 
   pub told-first : 0x20 ≤ l → l < 0x22 → true ≡ isTold l
   unfolding isTold
@@ -53,18 +53,29 @@ module _ (l : ℕ) where
   unfolding isTold
   told-second a b = sym (on isTold true 0x23 2 refl l a b)
 
-  told-none : (l ≡ TIME → ⊥) → (l ≡ SPEAKER → ⊥) → (l ≡ FORMAT → ⊥) → (l ≡ DATE → ⊥) → (l ≡ CONFIGURATION → ⊥) → (l ≡ POOL → ⊥) → false ≡ isTold l
+  told-none : (l ≡ TIME → ⊥) → (l ≡ SPEAKER → ⊥) → (l ≡ FORMAT → ⊥) → (l ≡ DATE → ⊥) → (l ≡ CONFIGURATION → ⊥) → (l ≡ POOL → ⊥) →
+      (l ≡ ERRORS → ⊥) → false ≡ isTold l
   unfolding isTold
-  told-none a b c d e f = rw (ne-eqb l TIME a, ne-eqb l SPEAKER b, ne-eqb l FORMAT c, ne-eqb l DATE d, ne-eqb l CONFIGURATION e, ne-eqb l POOL f)
+  told-none a b c d e f g =
+      rw (
+        ne-eqb l TIME a,
+        ne-eqb l SPEAKER b,
+        ne-eqb l FORMAT c,
+        ne-eqb l DATE d,
+        ne-eqb l CONFIGURATION e,
+        ne-eqb l POOL f,
+        ne-eqb l ERRORS g,
+      )
 
   pub told-below : l < 0x20 → false ≡ isTold l
-  told-below h = told-none (λ e. omega arith) (λ e. omega arith) (λ e. omega arith) (λ e. omega arith) (λ e. omega arith) (λ e. omega arith)
+  told-below h = told-none (λ e. omega arith) (λ e. omega arith) (λ e. omega arith) (λ e. omega arith) (λ e. omega arith) (λ e. omega arith) (λ e. omega arith)
 
   pub told-between : 0x22 ≤ l → l < 0x23 → false ≡ isTold l
-  told-between a b = told-none (λ e. omega arith) (λ e. omega arith) (λ e. omega arith) (λ e. omega arith) (λ e. omega arith) (λ e. omega arith)
+  told-between a b = told-none (λ e. omega arith) (λ e. omega arith) (λ e. omega arith) (λ e. omega arith) (λ e. omega arith) (λ e. omega arith) (λ e. omega arith)
 
-  pub told-above : ((l ≡ FORMAT) ⊎ (l ≡ DATE) → ⊥) → 0x25 ≤ l → false ≡ isTold l
-  told-above n a = told-none (λ e. omega arith) (λ e. omega arith) (λ e. n (inl e)) (λ e. n (inr e)) (λ e. omega arith) (λ e. omega arith)
+  pub told-above : ((l ≡ FORMAT) ⊎ ((l ≡ ERRORS) ⊎ (l ≡ DATE)) → ⊥) → 0x25 ≤ l → false ≡ isTold l
+  told-above n a =
+      told-none (λ e. omega arith) (λ e. omega arith) (λ e. n (inl e)) (λ e. n (inr (inr e))) (λ e. omega arith) (λ e. omega arith) (λ e. n (inr (inl e)))
 
 pub ruleset listed = (told-key, told-first, told-second, told-below, told-between, told-above, needs)
 
@@ -258,18 +269,42 @@ module _ (s : Settings) (m : List ℕ) (l : ℕ) (out a : List ℕ) (k : ℕ) wh
   unfolding tell
   tell-records e t = rw e t
 
-  pub tell-pool : (l ≡ TIME → ⊥) → (l ≡ SPEAKER → ⊥) → (l ≡ CONFIGURATION → ⊥) → (l ≡ FORMAT → ⊥) → (l ≡ DATE → ⊥) →
+  pub tell-errors : l ≡ ERRORS → Told out (s .errors ∷ []) a k → Told out (tell (board s m) l) a k
+  unfolding tell
+  tell-errors e t = rw e t
+
+  pub tell-pool : (l ≡ TIME → ⊥) → (l ≡ SPEAKER → ⊥) → (l ≡ CONFIGURATION → ⊥) → (l ≡ FORMAT → ⊥) → (l ≡ ERRORS → ⊥) → (l ≡ DATE → ⊥) →
       Told out (tellPool (board s m)) a k → Told out (tell (board s m) l) a k
   unfolding tell
-  tell-pool f g h i j t = rw (ne-eqb l TIME f, ne-eqb l SPEAKER g, ne-eqb l FORMAT i, ne-eqb l DATE j, ne-eqb l CONFIGURATION h) t
+  tell-pool f g h i n j t =
+      rw (ne-eqb l TIME f, ne-eqb l SPEAKER g, ne-eqb l FORMAT i, ne-eqb l DATE j, ne-eqb l CONFIGURATION h, ne-eqb l ERRORS n) t
 
-pub ruleset telling = (ready-ranged, ready-held, ready-room, tell-time, tell-speaker, tell-format, tell-date, tell-records, tell-pool, needs)
+pub ruleset telling = (ready-ranged, ready-held, ready-room, tell-time, tell-speaker, tell-format, tell-date, tell-records, tell-errors, tell-pool, needs)
+
+-- ---- the settings once it is told
+
+module _ (s : Settings) (l : ℕ) where
+  pub told-cleared : l ≡ ERRORS → (r : Settings) → r ≡ cleared s → r ≡ afterTold s l
+  unfolding afterTold
+  told-cleared e r q = rw e q
+
+  pub told-left : (l ≡ ERRORS → ⊥) → s ≡ afterTold s l
+  unfolding afterTold
+  told-left n = rw (ne-eqb l ERRORS n)
+
+  -- the register alone is another
+  told-same : afterTold s l ≡ withErrors s (afterTold s l .errors)
+  unfolding afterTold
+  told-same = choice (λ (t : Settings). t ≡ withErrors s (t .errors)) (l is ERRORS) (λ e. refl) (λ e. refl)
+
+pub ruleset behind = (told-cleared, told-left, needs)
 
 -- ---- F
 
 -- by its label, if there is one
 read-some : (b : Board) (text : List ℕ) → (length text ≡ 0 → ⊥) → readSpecial b text ≡
-    (if not (isTold (text ! 0)) then refuse 21 b else if length text isn't 1 then refuse 22 b else replied b (replyOf E (text ! 0) (tell b (text ! 0))))
+    (if not (isTold (text ! 0)) then refuse 21 b else if length text isn't 1 then refuse 22 b
+    else replied (board (afterTold (b .settings) (text ! 0)) (b .memory)) (replyOf E (text ! 0) (tell b (text ! 0))))
 unfolding readSpecial
 read-some b [] h = absurd (h refl)
 read-some b (l ∷ []) h = refl
@@ -290,12 +325,12 @@ module _ (s : Settings) (m out : List ℕ) where
     read-room a n t = rw (t .stored, length-splice out 27 (tell (board s m) l) (omega (arith, fits))) (omega (arith, fits, t .long))
 
     replied-told : (a c : List ℕ) (n k : ℕ) → Told out (tell (board s m) l) a n → Replied a E l (take n (drop 27 a)) c k →
-        Tells (board s m) out (replied (board s m) (replyOf E l (tell (board s m) l))) (doneAs 0 s k) c
+        Tells (board s m) out (replied (board (afterTold s l) m) (replyOf E l (tell (board s m) l))) (doneAs 0 (afterTold s l) k) c
     replied-told a c n k t y =
         let d = tell (board s m) l in
         let i : 27 + length d ≤ length out = omega (arith, fits) in
         let z : take n (drop 27 a) ≡ d = rw (t .long, t .stored) (splice-in out 27 d i) in
-        tells-replied s m out (replyOf E l d) c k
+        tells-replied s (afterTold s l) (told-same s l) m out (replyOf E l d) c k
         (y .stored ∙ rw (z, t .stored) (overlay-covers out 27 d (replyOf E l d) i (rw reply-length (omega arith))))
         (y .long ∙ ap (λ x. length (replyOf E l x)) z)
 
@@ -307,9 +342,9 @@ module _ (s : Settings) (m out : List ℕ) where
       pub read-long : (r : Done) → (length text ≡ 1 → ⊥) → r ≡ doneAs 22 s 0 → Tells (board s m) out (readSpecial (board s m) text) r out
       read-long r k e = rw (read-some (board s m) text h, ← f, not-false b n, ne-eqb (length text) 1 k) (tells-refused 22 s m r e out)
 
-      pub read-told : (a c : List ℕ) (i k : ℕ) → length text ≡ 1 → Ready s m out → Told out (tell (board s m) (text ! 0)) a i →
-          Replied a E (text ! 0) (take i (drop 27 a)) c k → Tells (board s m) out (readSpecial (board s m) text) (doneAs 0 s k) c
-      read-told a c i k l g t y =
-          rw (read-some (board s m) text h, ← f, not-false b n, eq-eqb (length text) 1 l) (replied-told (text ! 0) g a c i k t y)
+      pub read-told : (a c : List ℕ) (i k : ℕ) (x : Settings) → x ≡ afterTold s (text ! 0) → length text ≡ 1 → Ready s m out → Told out (tell (board s m) (text ! 0)) a i →
+          Replied a E (text ! 0) (take i (drop 27 a)) c k → Tells (board s m) out (readSpecial (board s m) text) (doneAs 0 x k) c
+      read-told a c i k x q l g t y =
+          rw (read-some (board s m) text h, ← f, not-false b n, eq-eqb (length text) 1 l, q) (replied-told (text ! 0) g a c i k t y)
 
 pub ruleset reading = (read-none, read-room, read-unknown, read-long, read-told, needs)

@@ -9,7 +9,7 @@ use Rattle.octets.specs.Carried.{isCarried2, carried2}
 use Rattle.octets.specs.Decimal.{isDecimal, decimal2, inDecimal2}
 use Rattle.octets.specs.Bytes.{COMMA, ZERO, E, F}
 use Rattle.temperature.specs.Offset.{isSignedDigit, signedDigit}
-use Rattle.board.specs.Settings.{FORMAT-S, FORMAT-M, OFF, ON, inDate, withTime, withDate, withFormat, withSpeaker, withAddress, withOffset}
+use Rattle.board.specs.Settings.{FORMAT-S, FORMAT-M, OFF, ON, inDate, withTime, withDate, withFormat, withSpeaker, withAddress, withOffset, cleared}
 use Rattle.board.specs.Files.{filesOf, heads}
 use Rattle.effects.specs.Reply.{replyOf}
 use Rattle.effects.specs.Effects.{Board, board, Effect, replied, refuse}
@@ -35,6 +35,14 @@ CONFIGURATION = 0x24
 -- "'"
 abbrev pub FORMAT : ℕ
 FORMAT = 0x27
+
+-- "*"
+abbrev pub ERRORS : ℕ
+ERRORS = 0x2A
+
+-- "4"
+abbrev pub CLEAR : ℕ
+CLEAR = 0x34
 
 -- "7"
 abbrev pub ADDRESS : ℕ
@@ -97,6 +105,10 @@ setAddress s d = if length d is 2 && isCarried2 d then to (withAddress s (carrie
 unfoldable pub setOffset : Settings → List ℕ → Change
 setOffset s d = if isSignedDigit d then to (withOffset s (signedDigit (d ! 0) (d ! 1))) else malformed s
 
+-- request 10, Clear Serial Error Status Register: "22 for data in excess"
+unfoldable pub clearErrors : Settings → List ℕ → Change
+clearErrors s d = if none d then to (cleared s) else malformed s
+
 -- a command to set the serial address, right or not
 abbrev pub setsAddress : ℕ → List ℕ → Bool
 setsAddress c d = c is E && d ! 0 is ADDRESS
@@ -110,6 +122,7 @@ setBy s label d =
     else if label is DATE then setDate s d
     else if label is ADDRESS then setAddress s d
     else if label is OFFSET then setOffset s d
+    else if label is CLEAR then clearErrors s d
     else unknown s
 
 -- what the board is then: its memory stays
@@ -136,11 +149,12 @@ tellTime s = inDecimal2 (s .hour) ++ inDecimal2 (s .minute)
 unfoldable pub tellDate : Settings → List ℕ
 tellDate s = inDecimal2 (s .month) ++ (inDecimal2 (s .day) ++ inDecimal2 (s .year))
 
--- "F: labels 20H, "!", "'", ";", "$" and "#""
+-- "F: labels 20H, "!", "'", ";", "$" and "#""; request 10: and "*"
 unfoldable pub isTold : ℕ → Bool
-isTold label = label is TIME || label is SPEAKER || label is FORMAT || label is DATE || label is CONFIGURATION || label is POOL
+isTold label =
+    label is TIME || label is SPEAKER || label is FORMAT || label is DATE || label is CONFIGURATION || label is POOL || label is ERRORS
 
--- "Replies use the layouts above"
+-- "Replies use the layouts above"; request 10, of "*": "returns one bitmapped ASCII character", the register as it is
 unfoldable pub tell : Board → ℕ → List ℕ
 tell b label =
     if label is TIME then tellTime (b .settings)
@@ -148,7 +162,13 @@ tell b label =
     else if label is FORMAT then b .settings .format ∷ []
     else if label is DATE then tellDate (b .settings)
     else if label is CONFIGURATION then heads (filesOf (b .settings .files) (b .memory))
+    else if label is ERRORS then b .settings .errors ∷ []
     else tellPool b
+
+-- "This register is set to its default value .. for the following Command Codes: (1) Read Serial Error Status Register": once it is
+-- told, "*" clears the register; every other label leaves the settings
+unfoldable pub afterTold : Settings → ℕ → Settings
+afterTold s label = if label is ERRORS then cleared s else s
 
 -- F: 21 "unknown .. function label"; "without data", else 22; the write code of its reply is E
 unfoldable pub readSpecial : Board → List ℕ → Effect
@@ -156,4 +176,4 @@ readSpecial b [] = refuse 22 b
 readSpecial b (label ∷ d) =
     if not (isTold label) then refuse 21 b
     else if not (none d) then refuse 22 b
-    else replied b (replyOf E label (tell b label))
+    else replied (board (afterTold (b .settings) label) (b .memory)) (replyOf E label (tell b label))

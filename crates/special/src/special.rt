@@ -39,7 +39,7 @@ ghost use Rattle.board.specs.Settings.{ON, inRange};
 ghost use Rattle.board.specs.Files.{filesOf, heads};
 ghost use Rattle.board.specs.Soundness.{holdsFiles, sound};
 ghost use Rattle.effects.specs.Effects.{board};
-ghost use Rattle.special.specs.Special.{setTime, setSpeaker, setFormat, setDate, setAddress, setOffset, setBy, writeSpecial, tellTime, tellDate, tellSpeaker, tellPool, isTold, tell, readSpecial};
+ghost use Rattle.special.specs.Special.{setTime, setSpeaker, setFormat, setDate, setAddress, setOffset, clearErrors, setBy, writeSpecial, tellTime, tellDate, tellSpeaker, tellPool, isTold, tell, afterTold, readSpecial};
 ghost use Rattle.special.specs.Changing.{changed};
 ghost use Rattle.effects.specs.Leaving.{Told, Acts, Tells, Ready};
 
@@ -53,6 +53,10 @@ const POOL: u8 = 0x23;
 const CONFIGURATION: u8 = 0x24;
 
 const FORMAT: u8 = 0x27;
+
+const ERRORS: u8 = 0x2A;
+
+const CLEAR: u8 = 0x34;
 
 const ADDRESS: u8 = 0x37;
 
@@ -150,6 +154,16 @@ fn set_offset(s: Settings, d: &[u8]) -> Done
     quiet(s.with_offset(offset), 0)
 }
 
+// Clear Serial Error Status Register: without data.
+fn clear_errors(s: Settings, d: &[u8]) -> Done
+    ensures { λ r. ⌜ r ≡ changed (clearErrors s (now (d .entry))) ⌝ }
+{
+    if d.len() != 0 {
+        return quiet(s, MALFORMED);
+    }
+    quiet(s.cleared(), 0)
+}
+
 // E, but for "$": the settings alone change.
 fn set_by(s: Settings, label: u8, d: &[u8]) -> Done
     ensures { λ r. ⌜ r ≡ changed (setBy s label (now (d .entry))) ⌝ }
@@ -161,6 +175,7 @@ fn set_by(s: Settings, label: u8, d: &[u8]) -> Done
         DATE => set_date(s, d),
         ADDRESS => set_address(s, d),
         OFFSET => set_offset(s, d),
+        CLEAR => clear_errors(s, d),
         _ => quiet(s, UNKNOWN),
     }
 }
@@ -219,13 +234,12 @@ fn tell_speaker(s: Settings, out: &mut [u8]) -> usize
     2
 }
 
-// The time format.
-fn tell_format(s: Settings, out: &mut [u8]) -> usize
+// One byte: the time format, or the register.
+fn tell_byte(byte: u8, out: &mut [u8]) -> usize
     requires { ⌜ 128 ≤ length (now out) ⌝ }
-    ensures { λ r. ⌜ Told (now (out .entry)) (s .format ∷ []) (now (out .exit)) r ⌝ }
+    ensures { λ r. ⌜ Told (now (out .entry)) (byte ∷ []) (now (out .exit)) r ⌝ }
 {
-    let format = s.format;
-    let one = [format];
+    let one = [byte];
     copy_at(out, DATA, &one);
     1
 }
@@ -260,12 +274,12 @@ fn tell_pool(s: Settings, m: &[u8], out: &mut [u8]) -> usize
     9
 }
 
-// "F: labels 20H, "!", "'", ";", "$" and "#""
+// "F: labels 20H, "!", "'", ";", "$" and "#""; request 10: and "*".
 fn is_told(label: u8) -> bool
     ensures { λ r. ⌜ r ≡ isTold label ⌝ }
 {
     match label {
-        TIME | SPEAKER | POOL | CONFIGURATION | FORMAT | DATE => true,
+        TIME | SPEAKER | POOL | CONFIGURATION | FORMAT | ERRORS | DATE => true,
         _ => false,
     }
 }
@@ -278,11 +292,22 @@ fn tell(s: Settings, m: &[u8], label: u8, out: &mut [u8]) -> usize
     match label {
         TIME => tell_time(s, out),
         SPEAKER => tell_speaker(s, out),
-        FORMAT => tell_format(s, out),
+        FORMAT => tell_byte(s.format, out),
         DATE => tell_date(s, out),
         CONFIGURATION => tell_records(m, s.files as usize, out),
+        ERRORS => tell_byte(s.errors, out),
         _ => tell_pool(s, m, out),
     }
+}
+
+// "*" clears the register once it is told; every other label leaves the settings.
+fn after_told(s: Settings, label: u8) -> Settings
+    ensures { λ r. ⌜ r ≡ afterTold s label ⌝ }
+{
+    if label == ERRORS {
+        return s.cleared();
+    }
+    s
 }
 
 // F: "without data".
@@ -304,7 +329,7 @@ pub fn read_special(s: Settings, m: &[u8], text: &[u8], out: &mut [u8]) -> Done
     let length = reply(out, E, label, n);
     Done {
         number: 0,
-        settings: s,
+        settings: after_told(s, label),
         length,
     }
 }

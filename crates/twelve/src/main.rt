@@ -245,6 +245,7 @@ fn same_settings(a: Settings, b: Settings) -> bool {
         a.address,
         a.own,
         a.files,
+        a.errors,
     ];
     let y = [
         b.hour,
@@ -257,6 +258,7 @@ fn same_settings(a: Settings, b: Settings) -> bool {
         b.address,
         b.own,
         b.files,
+        b.errors,
     ];
     same(&x, &y)
         && a.unused == b.unused

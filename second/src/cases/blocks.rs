@@ -6,8 +6,9 @@ use super::dates;
 use super::dice::Dice;
 use super::temperatures;
 use crate::bytes::{
-    CONFIGURATION, DATE, LOWEST_DATA, POOL, READ_SPECIAL, READ_STRING, READ_TEXT, SERIAL_ADDRESS,
-    SPEAKER, TEMPERATURE_OFFSET, TIME, TIME_FORMAT, WRITE_SPECIAL, WRITE_STRING, WRITE_TEXT,
+    CLEAR_REGISTER, CONFIGURATION, DATE, LOWEST_DATA, POOL, READ_REGISTER, READ_SPECIAL,
+    READ_STRING, READ_TEXT, SERIAL_ADDRESS, SPEAKER, TEMPERATURE_OFFSET, TIME, TIME_FORMAT,
+    WRITE_SPECIAL, WRITE_STRING, WRITE_TEXT,
 };
 use crate::files::MOST_FILES;
 use crate::hex::byte_digits;
@@ -61,7 +62,23 @@ impl Plan {
 const LONG_MESSAGE: usize = 2_000;
 
 /// The functions that can be read, "#" twice, since it tells the unused amount.
-const READ_LABELS: [u8; 7] = [TIME, SPEAKER, TIME_FORMAT, DATE, CONFIGURATION, POOL, POOL];
+const READ_LABELS: [u8; 8] = [
+    TIME,
+    SPEAKER,
+    TIME_FORMAT,
+    DATE,
+    CONFIGURATION,
+    POOL,
+    POOL,
+    READ_REGISTER,
+];
+
+/// The blocks that clear the register and that read it, and the same labels under
+/// the other command.
+const CLEARING: (u8, u8) = (WRITE_SPECIAL, CLEAR_REGISTER);
+const READING: (u8, u8) = (READ_SPECIAL, READ_REGISTER);
+const NOT_CLEARING: (u8, u8) = (READ_SPECIAL, CLEAR_REGISTER);
+const NOT_READING: (u8, u8) = (WRITE_SPECIAL, READ_REGISTER);
 
 /// What is known of a board while blocks are planned for it.
 pub struct Sight {
@@ -80,7 +97,7 @@ impl Sight {
 }
 
 /// Blocks for a board: most of them do something, some are refused, and the last
-/// often looks for a file that is not there.
+/// often looks for a file that is not there or tells what was refused.
 pub fn for_board(dice: &mut Dice, sight: &mut Sight, count: usize) -> Vec<Plan> {
     let share = dice.one_of([0, 5, 15, 15, 40]);
     let mut plans = Vec::new();
@@ -92,11 +109,37 @@ pub fn for_board(dice: &mut Dice, sight: &mut Sight, count: usize) -> Vec<Plan> 
             no_file(dice, sight, is_last)
         } else if is_last && dice.chance(2) {
             offset_read(dice)
+        } else if is_last && dice.chance(3) {
+            of_register(READING)
         } else {
             done(dice, sight, is_last, place == 1)
         };
         plans.push(plan);
     }
+    give_ends(dice, &mut plans);
+    plans
+}
+
+/// Blocks of which the last asks what was refused: one to three are refused, with
+/// every number in its turn, blocks that are done and "4" stand among them, and the
+/// last is "*" most times.
+pub fn with_faults(dice: &mut Dice, sight: &mut Sight) -> Vec<Plan> {
+    let mut plans = Vec::new();
+    for _ in 0..dice.between(1, 3) {
+        let number = 20 + dice.dealt("fault", &[2, 2, 1, 1, 1, 1, 1, 1]);
+        plans.push(refused_with(number, dice, sight, false));
+        match dice.dealt("between faults", &[4, 2, 2, 1]) {
+            0 => {}
+            1 => plans.push(done(dice, sight, false, false)),
+            2 => plans.push(of_register(CLEARING)),
+            _ => plans.push(register_refused(dice, false)),
+        }
+    }
+    plans.push(match dice.dealt("after faults", &[6, 3, 1]) {
+        0 => of_register(READING),
+        1 => register_refused(dice, true),
+        _ => read(dice, sight),
+    });
     give_ends(dice, &mut plans);
     plans
 }
@@ -108,6 +151,11 @@ fn offset_read(dice: &mut Dice) -> Plan {
         data.extend(temperatures::good_text(dice));
     }
     Plan::new(READ_SPECIAL, data)
+}
+
+/// A command and a label that have to do with the register, without data.
+fn of_register((command, label): (u8, u8)) -> Plan {
+    Plan::new(command, vec![label])
 }
 
 /// A message to each file in memory's order: on a full board 64 blocks, each
@@ -149,7 +197,7 @@ fn done(dice: &mut Dice, sight: &mut Sight, is_last: bool, is_first: bool) -> Pl
     if is_last && dice.chance(if sight.is_crowded() { 90 } else { 60 }) {
         return read(dice, sight);
     }
-    match dice.below(21) {
+    match dice.below(22) {
         0..=10 => write(dice, sight),
         11 | 12 => special(TIME, &decimal(dice, &[(0, 23), (0, 59)])),
         13 => special(SPEAKER, &dice.one_of([*b"00", *b"FF"])),
@@ -157,6 +205,7 @@ fn done(dice: &mut Dice, sight: &mut Sight, is_last: bool, is_first: bool) -> Pl
         15 | 16 => special(DATE, &dates::real(dice).text()),
         17 => special(SERIAL_ADDRESS, &byte_digits(dice.byte(0, 255))),
         18 => special(TEMPERATURE_OFFSET, &temperatures::good_text(dice)),
+        19 => of_register(CLEARING),
         _ => configuration(dice, sight),
     }
 }
@@ -224,7 +273,7 @@ fn read_code(kind: Kind) -> u8 {
 fn any_record(dice: &mut Dice, sight: &Sight) -> Option<Record> {
     let count = sight.records.len();
     let any = dice.below(count);
-    let place = if sight.is_crowded() && dice.chance(65) {
+    let place = if sight.is_crowded() && dice.chance(70) {
         dice.one_of([0, count - 1])
     } else {
         any
@@ -266,7 +315,7 @@ fn configuration(dice: &mut Dice, sight: &mut Sight) -> Plan {
 /// The records that a list puts in place of the board's: a crowded board often
 /// stays crowded, so that the blocks that follow still meet many files.
 fn next_records(dice: &mut Dice, sight: &Sight) -> Vec<Record> {
-    if sight.is_crowded() && dice.chance(80) {
+    if sight.is_crowded() && dice.chance(70) {
         let count = boards::crowd(dice);
         return boards::many_records(dice, sight.memory_length, count);
     }
@@ -279,15 +328,25 @@ fn list_of(records: &[Record]) -> Vec<u8> {
 
 /// A block that the board refuses, for one of the eight reasons. A date that
 /// does not exist comes more often than its share of them, so that the end of
-/// every month is met, and so does a temperature offset that is none.
-fn refused(dice: &mut Dice, sight: &mut Sight, is_last: bool) -> Plan {
+/// every month is met, and so do a temperature offset that is none and what has to
+/// do with the register.
+fn refused(dice: &mut Dice, sight: &Sight, is_last: bool) -> Plan {
     if dice.chance(18) {
         return special(DATE, &dates::wrong(dice).text());
     }
     if dice.chance(8) {
         return special(TEMPERATURE_OFFSET, &temperatures::wrong_text(dice));
     }
-    match dice.between(20, 27) {
+    if dice.chance(8) {
+        return register_refused(dice, is_last);
+    }
+    let number = dice.between(20, 27);
+    refused_with(number, dice, sight, is_last)
+}
+
+/// A block that the board refuses with this number.
+fn refused_with(number: usize, dice: &mut Dice, sight: &Sight, is_last: bool) -> Plan {
+    match number {
         20 => wrong_sum(dice, sight, is_last),
         21 => unknown(dice, is_last),
         22 => malformed(dice, sight, is_last),
@@ -299,14 +358,36 @@ fn refused(dice: &mut Dice, sight: &mut Sight, is_last: bool) -> Plan {
     }
 }
 
+/// "4" and "*" with data (22), under the other command (21), or either with a wrong
+/// sum (20).
+fn register_refused(dice: &mut Dice, is_last: bool) -> Plan {
+    let (block, way) = if is_last {
+        let card = dice.dealt("refused of F", &[1; 6]);
+        ([READING, NOT_CLEARING][card % 2], card / 2)
+    } else {
+        let card = dice.dealt("refused of E", &[1; 6]);
+        ([CLEARING, NOT_READING][card % 2], card / 2)
+    };
+    let mut plan = of_register(block);
+    let is_known = block == CLEARING || block == READING;
+    if way == 0 && is_known || way == 1 {
+        let length = dice.one_of([1, 1, 2, 9]);
+        plan.data.extend(message(dice, length));
+    }
+    if way == 2 {
+        plan.add_wrong_sum(dice);
+    }
+    plan
+}
+
 /// 20, over a block that would be done or refused.
 fn wrong_sum(dice: &mut Dice, sight: &Sight, is_last: bool) -> Plan {
-    let mut plan = match dice.below(7) {
-        0 => unknown(dice, is_last),
-        1 => malformed(dice, sight, is_last),
-        2 if is_last => read(dice, sight),
-        3 => special(TIME_FORMAT, b"M"),
-        4 => special(TEMPERATURE_OFFSET, &temperatures::good_text(dice)),
+    let mut plan = match dice.below(8) {
+        0 | 1 => unknown(dice, is_last),
+        2 => malformed(dice, sight, is_last),
+        3 if is_last => read(dice, sight),
+        4 => special(TIME_FORMAT, b"M"),
+        5 => special(TEMPERATURE_OFFSET, &temperatures::good_text(dice)),
         _ => write(dice, sight),
     };
     plan.add_wrong_sum(dice);
@@ -321,6 +402,7 @@ fn unknown(dice: &mut Dice, is_last: bool) -> Plan {
         let label = dice.one_of([
             b'&',
             b'7',
+            b'-',
             b'"',
             b'%',
             b'A',
@@ -596,6 +678,11 @@ pub fn for_anybody(dice: &mut Dice, count: usize, may_end_with_read: bool) -> Ve
         let mut plan = Plan::new(any_writer(dice), data);
         if is_last && may_end_with_read && dice.chance(30) {
             plan.command = dice.one_of([READ_TEXT, READ_SPECIAL, READ_STRING, b'J', b'N']);
+        }
+        match plan.command {
+            WRITE_SPECIAL if dice.chance(20) => plan = of_register(CLEARING),
+            READ_SPECIAL if dice.chance(50) => plan = of_register(READING),
+            _ => {}
         }
         if dice.chance(sums) {
             plan.add_sum();

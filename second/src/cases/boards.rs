@@ -5,6 +5,7 @@ use super::amounts;
 use super::dates;
 use super::dice::Dice;
 use super::indices;
+use super::registers;
 use super::temperatures;
 use crate::bytes::NUL;
 use crate::files::{walk, File, MOST_FILES};
@@ -33,7 +34,7 @@ const SMALL_MEMORY: usize = 600;
 
 /// A sound board: most times a few files in a small memory.
 pub fn sound(dice: &mut Dice) -> Board {
-    let (length, records) = match dice.dealt("board", &[20, 1, 1, 78]) {
+    let (length, records) = match dice.dealt("board", &[24, 1, 1, 74]) {
         0 => crowded(dice),
         1 => (LEAST_MEMORY, Vec::new()),
         2 => (MOST_MEMORY, Vec::new()),
@@ -104,7 +105,7 @@ fn crowded(dice: &mut Dice) -> (usize, Vec<Record>) {
         _ => dice.between(least, 2 * least),
     };
     let mut records = many_records(dice, length, count);
-    if dice.chance(35) {
+    if dice.chance(20) {
         take_rest(dice, &mut records, length);
     }
     (length, records)
@@ -164,6 +165,7 @@ fn settings(dice: &mut Dice, files: u8) -> Settings {
         own_type: own_type(dice),
         files,
         offset: temperatures::good_offset(dice),
+        register: registers::good(dice),
         ..Settings::default()
     })
 }
@@ -318,14 +320,15 @@ pub fn message(dice: &mut Dice, length: usize) -> Vec<u8> {
     }
 }
 
-/// Damages a board in one place: its unused amount, its index, its offset, or
-/// something else, and amount and index are right for that. Now and then it stays
-/// sound.
+/// Damages a board in one place: its unused amount, its index, its offset, its
+/// register, or something else, and amount and index are right for that. Now and
+/// then it stays sound.
 pub fn damage(dice: &mut Dice, board: &mut Board) {
     match dice.below(100) {
         0..=7 => board.settings = amounts::wrong(dice, board.settings, board.memory.len()),
         8..=15 => indices::make_wrong(dice, board),
         16..=19 => board.settings.offset = temperatures::wrong_offset(dice),
+        20..=23 => board.settings.register = registers::wrong(dice),
         _ => {
             damage_elsewhere(dice, board);
             put_right(board);
@@ -346,7 +349,7 @@ fn damage_elsewhere(dice: &mut Dice, board: &mut Board) {
 }
 
 /// One field just out of its range, or any other value.
-fn damage_settings(dice: &mut Dice, board: &mut Board) {
+pub fn damage_settings(dice: &mut Dice, board: &mut Board) {
     let mut fields = board.settings.fields();
     let place = dice.below(FIELDS);
     let any = dice.byte(0, 255);

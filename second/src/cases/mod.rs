@@ -9,6 +9,7 @@ pub mod frames;
 pub mod full_dates;
 pub mod indices;
 pub mod reckoning;
+pub mod registers;
 pub mod temperatures;
 
 use std::io::{self, Write};
@@ -22,16 +23,16 @@ use crate::bytes::LOWEST_DATA;
 use crate::run::REPLY_MARGIN;
 use crate::soundness::{LEAST_MEMORY, MOST_MEMORY};
 use crate::stream::{
-    Answer, Case, CALLS, DAYS_CALL, FRESH_CALL, JOIN_CALL, REFORM_CALL, RENEWAL_CALL, RUN_CALL,
-    TEMPERATURE_CALL, WEEKDAY_CALL, WRITE_CALL,
+    Answer, Case, CALLS, DAYS_CALL, FRESH_CALL, JOIN_CALL, PORT_CALL, REFORM_CALL, RENEWAL_CALL,
+    RUN_CALL, TEMPERATURE_CALL, WEEKDAY_CALL, WRITE_CALL,
 };
 use crate::translation::{MOST_PRINTABLE, MOST_TRANSLATED};
 
 /// How often each call is made in 720 cases, in the order of [`CALLS`].
-const WEIGHTS: [usize; CALLS.len()] = [34, 288, 60, 85, 83, 78, 30, 37, 25];
+const WEIGHTS: [usize; CALLS.len()] = [34, 277, 60, 85, 83, 75, 28, 37, 25, 16];
 
-/// How often each sort of run is made in 160 runs, in the order of [`run_case`].
-const RUNS: [usize; 6] = [90, 16, 10, 18, 4, 22];
+/// How often each sort of run is made in 196 runs, in the order of [`run_case`].
+const RUNS: [usize; 8] = [106, 18, 11, 21, 4, 4, 10, 22];
 
 /// Writes so many cases, of these calls only.
 pub fn write_cases(
@@ -61,6 +62,7 @@ pub fn any_case(dice: &mut Dice, calls: &[u8]) -> Option<Case> {
         WEEKDAY_CALL => Some(reckoning::weekday_case(dice)),
         DAYS_CALL => Some(reckoning::days_case(dice)),
         TEMPERATURE_CALL => Some(temperatures::temperature_case(dice)),
+        PORT_CALL => Some(registers::port_case(dice)),
         _ => None,
     }
 }
@@ -105,6 +107,8 @@ fn run_case(dice: &mut Dice) -> Case {
         2 => wrong_amount_run(dice),
         3 => wrong_index_run(dice),
         4 => wrong_offset_run(dice),
+        5 => wrong_register_run(dice),
+        6 => faults_run(dice),
         _ => any_run(dice),
     }
 }
@@ -195,10 +199,32 @@ fn wrong_offset_run(dice: &mut Dice) -> Case {
     run_on(dice, board, count)
 }
 
+/// A run that would be good, on a board whose register has a wrong fixed bit.
+fn wrong_register_run(dice: &mut Dice) -> Case {
+    let mut board = boards::small_or_empty(dice);
+    board.settings.register = registers::wrong(dice);
+    let count = dice.between(1, 4);
+    run_on(dice, board, count)
+}
+
+/// A run of a few blocks that are refused and of one that asks for it. A small
+/// board will do here too.
+fn faults_run(dice: &mut Dice) -> Case {
+    let board = boards::small(dice);
+    let plans = blocks::with_faults(dice, &mut sight_of(&board));
+    let sketch = sketch_of(dice, &board, plans);
+    run_of(dice, board, sketch)
+}
+
 /// A run of a good frame that reaches the board, with a reply buffer that is
 /// long enough.
 fn run_on(dice: &mut Dice, board: boards::Board, count: usize) -> Case {
     let sketch = sketch_for(dice, &board, count);
+    run_of(dice, board, sketch)
+}
+
+/// A run of this frame, with a reply buffer that is long enough.
+fn run_of(dice: &mut Dice, board: boards::Board, sketch: Sketch) -> Case {
     let more = dice.one_of([0, 0, 0, 1, 16]);
     Case::Run {
         settings: board.settings,
@@ -210,16 +236,26 @@ fn run_on(dice: &mut Dice, board: boards::Board, count: usize) -> Case {
 
 /// A good frame for the board.
 fn sketch_for(dice: &mut Dice, board: &boards::Board, count: usize) -> Sketch {
-    let mut sight = Sight {
-        records: board.records.clone(),
-        former: board.records.clone(),
-        memory_length: board.memory.len(),
-    };
+    let mut sight = sight_of(board);
     let plans = if sight.is_crowded() && dice.chance(15) {
         blocks::for_each_file(dice, &sight)
     } else {
         blocks::for_board(dice, &mut sight, count)
     };
+    sketch_of(dice, board, plans)
+}
+
+/// What is known of the board before its frame.
+fn sight_of(board: &boards::Board) -> Sight {
+    Sight {
+        records: board.records.clone(),
+        former: board.records.clone(),
+        memory_length: board.memory.len(),
+    }
+}
+
+/// A frame of these blocks that reaches the board.
+fn sketch_of(dice: &mut Dice, board: &boards::Board, plans: Vec<Plan>) -> Sketch {
     let header = frames::reaching_header(dice, board.settings);
     Sketch::new(dice, header, plans)
 }

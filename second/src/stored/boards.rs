@@ -2,6 +2,7 @@
 
 use super::build::{after, filled, pairs, plain, summed};
 use super::Stored;
+use crate::body::MOST_BLOCKS;
 use crate::bytes::{NUL, SOH};
 use crate::fresh::fresh;
 use crate::index::Index;
@@ -46,10 +47,14 @@ impl Kit {
     }
 
     /// The board after these blocks have run on it.
-    pub fn after(mut self, blocks: &[&[u8]]) -> Kit {
+    pub fn after(self, blocks: &[&[u8]]) -> Kit {
+        self.after_frame(&plain(b"Z00", blocks))
+    }
+
+    /// The board after this frame has run on it.
+    pub fn after_frame(mut self, frame: &[u8]) -> Kit {
         let mut reply = vec![0; self.memory.len() + REPLY_MARGIN];
-        let frame = plain(b"Z00", blocks);
-        self.settings = run(self.settings, &mut self.memory, &mut reply, &frame).settings;
+        self.settings = run(self.settings, &mut self.memory, &mut reply, frame).settings;
         self
     }
 
@@ -119,6 +124,12 @@ impl Kit {
         self
     }
 
+    /// The board with this register, its fixed bits right or wrong.
+    pub fn with_register(mut self, register: u8) -> Kit {
+        self.settings.register = register;
+        self
+    }
+
     /// The board with this entry for a label, right or wrong.
     pub fn with_entry(self, label: u8, entry: u16) -> Kit {
         let index = self.settings.index.with(label, entry);
@@ -132,7 +143,7 @@ fn two_files() -> Kit {
 }
 
 /// The same with something in both files.
-fn two_messages() -> Kit {
+pub(super) fn two_messages() -> Kit {
     two_files().after(&[b"AAOLD TEXT", b"GSOLD"])
 }
 
@@ -221,6 +232,31 @@ impl List {
     pub(super) fn each_alike(&mut self, about: &str, first: Number, kit: &Kit, blocks: &[&[u8]]) {
         for block in blocks {
             self.blocks(about, first, kit, &plain(b"Z00", &[block]));
+        }
+    }
+
+    /// A frame of this block, refused for every reason: "1 to 9: board and buffers
+    /// untouched", so the settings come back as they were.
+    pub(super) fn refused_frames(&mut self, kit: &Kit, block: &[u8]) {
+        let good = plain(b"Z00", &[block]);
+        let late = kit.clone().with_field(0, 24);
+        self.run("1 for another reason", NOT_SOUND, &late, &good);
+        let short = kit.memory.len() + REPLY_MARGIN - 1;
+        self.run_with("2", (SHORT_REPLY_BUFFER, 0), kit, &good, short);
+        let cut = [b"_01Z00_02".as_slice(), block, b"_04_0"].concat();
+        let many = vec![block; MOST_BLOCKS + 1];
+        for (about, number, frame) in [
+            ("3, empty", BAD_LENGTH, Vec::new()),
+            ("4", BAD_LEAD, good[1..].to_vec()),
+            ("5", BAD_PRINTABLE, cut),
+            ("6", BAD_HEADER, plain(b"z00", &[block])),
+            ("7, no EOT", BAD_BODY, good[..good.len() - 1].to_vec()),
+            ("7, 65 blocks", BAD_BODY, plain(b"Z00", &many)),
+            ("8", READ_NOT_LAST, plain(b"Z00", &[b"F ", block])),
+            ("9, another type", NOT_ADDRESSED, plain(b"m00", &[block])),
+            ("9", NOT_ADDRESSED, plain(b"Z0?", &[block])),
+        ] {
+            self.run(about, number, kit, &frame);
         }
     }
 

@@ -33,6 +33,20 @@ pub fn summed(header: &[u8], blocks: &[&[u8]]) -> Vec<u8> {
     bytes
 }
 
+/// Five NUL, SOH, the header, the first block with ETX and the sum 0000, which no
+/// short block has, then the others parted by ETX, EOT.
+pub fn with_wrong_sum(header: &[u8], blocks: &[&[u8]]) -> Vec<u8> {
+    let Some((first, others)) = blocks.split_first() else {
+        return plain(header, blocks);
+    };
+    let mut bytes = plain(header, &[first]);
+    bytes.pop();
+    bytes.push(ETX);
+    bytes.extend(word_digits(0));
+    bytes.extend(after(b"", b"", others));
+    bytes
+}
+
 /// STX, a command and its data, ETX, checksum.
 fn with_sum(block: &[u8]) -> Vec<u8> {
     let mut bytes = vec![STX];

@@ -12,6 +12,8 @@ pub mod index;
 pub mod lookups;
 pub mod offsets;
 pub mod outputs;
+pub mod port_errors;
+pub mod registers;
 pub mod renewals;
 pub mod temperatures;
 pub mod unused;
@@ -46,10 +48,12 @@ impl Stored {
 
 /// All fixed cases: writing, re-forming and joining first, then the boards,
 /// the full ones behind the others, then the dates of boards, their unused
-/// amounts, the files that they find, their indices and their temperature offsets,
-/// then the calls that reckon with dates, and last those with degrees.
+/// amounts, the files that they find, their indices, their temperature offsets and
+/// their registers, then the calls that reckon with dates and with degrees, and
+/// last the port driver's.
 pub fn all() -> Vec<Stored> {
     let mut cases = outputs::all();
+    cases.extend(registers::outputs());
     cases.extend(boards::all());
     cases.extend(full::all());
     cases.extend(dates::all());
@@ -57,10 +61,12 @@ pub fn all() -> Vec<Stored> {
     cases.extend(lookups::all());
     cases.extend(index::all());
     cases.extend(offsets::all());
+    cases.extend(registers::all());
     cases.extend(renewals::all());
     cases.extend(weekdays::all());
     cases.extend(days_between::all());
     cases.extend(temperatures::all());
+    cases.extend(port_errors::all());
     cases
 }
 

@@ -2,7 +2,7 @@
 //! request 9 of document 02. Nothing replies with the offset, so the settings that
 //! come back tell it.
 
-use super::boards::{Kit, List};
+use super::boards::{two_messages, Kit, List};
 use super::build::{after, escaped, plain, summed, without_nuls};
 use super::crowd::{set, Crowd};
 use super::Stored;
@@ -10,9 +10,8 @@ use crate::body::MOST_BLOCKS;
 use crate::bytes::{LOWEST_DATA, MINUS, PLUS, SOH};
 use crate::header::is_own_type;
 use crate::numbers::{
-    Number, BAD_BODY, BAD_HEADER, BAD_LEAD, BAD_LENGTH, BAD_LIST, BAD_PRINTABLE, DONE, LABEL_TWICE,
-    MALFORMED, MESSAGE_TOO_LONG, NOT_ADDRESSED, NOT_SOUND, NO_FILE, NO_ROOM, READ_NOT_LAST,
-    SHORT_REPLY_BUFFER, UNKNOWN, WRONG_MEMORY, WRONG_SUM, WRONG_TYPE,
+    Number, BAD_LIST, DONE, LABEL_TWICE, MALFORMED, MESSAGE_TOO_LONG, NOT_SOUND, NO_FILE, NO_ROOM,
+    READ_NOT_LAST, UNKNOWN, WRONG_MEMORY, WRONG_SUM, WRONG_TYPE,
 };
 use crate::record::Kind;
 use crate::soundness::LEAST_MEMORY;
@@ -58,7 +57,7 @@ const OTHER_LETTERS: [&[u8]; 18] = [
     b"T+5", b"TT+5", b"ES+5", b"EU+5", b"E\xD4+5", b"E+5", b"E-5",
 ];
 /// Every other command and function on a board of two files.
-const OTHER_COMMANDS: [&[u8]; 20] = [
+pub(super) const OTHER_COMMANDS: [&[u8]; 20] = [
     b"E 2359",
     b"E!00",
     b"E!FF",
@@ -110,10 +109,7 @@ fn board(offset: i8) -> Kit {
 
 /// A board of two files that holds this offset.
 fn two_files(offset: i8) -> Kit {
-    let blocks: [&[u8]; 3] = [&set(TWO_RECORDS), b"AAOLD TEXT", b"GSOLD"];
-    Kit::fresh(b'C', LEAST_MEMORY)
-        .after(&blocks)
-        .with_offset(offset)
+    two_messages().with_offset(offset)
 }
 
 /// The block that sets an offset by these data.
@@ -359,33 +355,10 @@ fn no_frame_mends(list: &mut List) {
     }
 }
 
-/// "1 to 9: board and buffers untouched": the offset comes back as it was.
+/// The offset comes back as it was.
 fn refused_frames(list: &mut List) {
     for offset in [-7, 9] {
-        let kit = board(offset);
-        let good = plain(b"Z00", &[PLUS_FIVE]);
-        let late = kit.clone().with_field(0, 24);
-        list.run("1 for another reason", NOT_SOUND, &late, &good);
-        let short = LEAST_MEMORY + 63;
-        list.run_with("2", (SHORT_REPLY_BUFFER, 0), &kit, &good, short);
-        let many = vec![PLUS_FIVE; MOST_BLOCKS + 1];
-        for (about, number, frame) in [
-            ("3, empty", BAD_LENGTH, Vec::new()),
-            ("4", BAD_LEAD, after(b"\0\0\0\0\x01", b"Z00", &[PLUS_FIVE])),
-            ("5", BAD_PRINTABLE, b"_01Z00_02ET+5_04_0".to_vec()),
-            ("6", BAD_HEADER, plain(b"z00", &[PLUS_FIVE])),
-            ("7, no EOT", BAD_BODY, b"\0\0\0\0\0\x01Z00\x02ET+5".to_vec()),
-            ("7, 65 blocks", BAD_BODY, plain(b"Z00", &many)),
-            ("8", READ_NOT_LAST, plain(b"Z00", &[b"F ", PLUS_FIVE])),
-            (
-                "9, another type",
-                NOT_ADDRESSED,
-                plain(b"m00", &[PLUS_FIVE]),
-            ),
-            ("9", NOT_ADDRESSED, plain(b"Z0?", &[PLUS_FIVE])),
-        ] {
-            list.run(about, number, &kit, &frame);
-        }
+        list.refused_frames(&board(offset), PLUS_FIVE);
     }
 }
 

@@ -41,9 +41,10 @@ pub fn all() -> Vec<Stored> {
     list.cases
 }
 
+/// The cases so far.
 #[derive(Default)]
-struct List {
-    cases: Vec<Stored>,
+pub(super) struct List {
+    pub(super) cases: Vec<Stored>,
 }
 
 impl List {
@@ -51,7 +52,7 @@ impl List {
         self.cases.push(Stored::of_one_number(about, number, case));
     }
 
-    fn write(
+    pub(super) fn write(
         &mut self,
         about: &str,
         number: Number,
@@ -68,7 +69,14 @@ impl List {
         self.add(about, number, case);
     }
 
-    fn reform(&mut self, about: &str, number: Number, form: u8, frame: &[u8], room: usize) {
+    pub(super) fn reform(
+        &mut self,
+        about: &str,
+        number: Number,
+        form: u8,
+        frame: &[u8],
+        room: usize,
+    ) {
         let case = Case::Reform {
             form,
             frame: frame.to_vec(),
@@ -77,7 +85,7 @@ impl List {
         self.add(about, number, case);
     }
 
-    fn join(
+    pub(super) fn join(
         &mut self,
         about: &str,
         number: Number,

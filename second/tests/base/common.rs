@@ -4,7 +4,9 @@
 use std::collections::BTreeSet;
 
 pub use second::stored::boards::Kit;
-pub use second::stored::build::{after, escaped, filled, pairs, plain, summed, without_nuls};
+pub use second::stored::build::{
+    after, escaped, filled, pairs, plain, summed, with_wrong_sum, without_nuls,
+};
 
 use second::cases::any_case;
 use second::cases::boards::{records, sound};
@@ -75,6 +77,25 @@ pub fn assert_1_comes_first(wrong: &Kit) {
     for frame in [b"".as_slice(), b"X", b"_4", b"\0\0\0\0\0\x01Z00\x02E'M"] {
         assert_eq!(run_with(wrong, frame, 0).ran.number, 1);
         assert_eq!(run_on(wrong, frame).ran.number, 1);
+    }
+}
+
+/// "1 to 9: board and buffers untouched": [`run_with`] looks at the settings after
+/// a frame of this block that is refused for every reason.
+pub fn assert_refused_frames_leave(kit: &Kit, block: &[u8]) {
+    let good = plain(b"Z00", &[block]);
+    assert_eq!(run_with(kit, &good, 0).ran.number, 2);
+    let cut = [b"_01Z00_02", block, b"_04_"].concat();
+    for (frame, number) in [
+        (b"".to_vec(), 3),
+        (b"X".to_vec(), 4),
+        (cut, 5),
+        (plain(b"z00", &[block]), 6),
+        (plain(b"Z00", &vec![block; 65]), 7),
+        (plain(b"Z00", &[b"F ", block]), 8),
+        (plain(b"D00", &[block]), 9),
+    ] {
+        assert_eq!(number_of(kit, &frame), number);
     }
 }
 
@@ -226,8 +247,8 @@ pub fn first_of(kit: &Kit, blocks: &[&[u8]]) -> u8 {
     after.ran.first_number
 }
 
-/// Runs one block: Ok is its reply, Err its number; a refused block leaves the
-/// board as it was.
+/// Runs one block: Ok is its reply, Err its number; "A refused block now changes
+/// nothing but this register", which 20, 21 and 23 do.
 pub fn block_on(kit: &Kit, block: &[u8]) -> Result<After, u8> {
     let after = run_on(kit, &plain(b"Z00", &[block]));
     assert_eq!(after.ran.number, 0);
@@ -237,7 +258,13 @@ pub fn block_on(kit: &Kit, block: &[u8]) -> Result<After, u8> {
     }
     assert_eq!((after.ran.done, after.ran.refused), (0, 1));
     assert_eq!(after.ran.first_place, 1);
-    assert_eq!(after.ran.settings, kit.settings);
+    let bit = match after.ran.first_number {
+        20 => 0x10,
+        21 | 23 => 0x20,
+        _ => 0,
+    };
+    let left = kit.clone().with_register(kit.settings.register | bit);
+    assert_eq!(after.ran.settings, left.settings);
     assert_eq!(after.kit.memory, kit.memory);
     assert_eq!(after.reply, b"");
     Err(after.ran.first_number)
@@ -348,7 +375,7 @@ pub fn reply_of(code_label_data: &[u8], sum: &[u8]) -> Vec<u8> {
 
 /// The numbers that each call can answer; those of a run's first refused block
 /// stand under "r".
-const NUMBERS: [(u8, &[u8]); 10] = [
+const NUMBERS: [(u8, &[u8]); 11] = [
     (b'N', &[0, 10, 11]),
     (b'R', &[0, 1, 2, 3, 4, 5, 6, 7, 8, 9]),
     (b'r', &[20, 21, 22, 23, 24, 25, 26, 27]),
@@ -359,6 +386,7 @@ const NUMBERS: [(u8, &[u8]); 10] = [
     (b'Y', &[0, 30]),
     (b'B', &[0, 30]),
     (b'T', &[0, 1, 33]),
+    (b'P', &[0, 1]),
 ];
 
 /// Checks that of each call all its numbers were seen, and no others.

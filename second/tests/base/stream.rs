@@ -30,17 +30,18 @@ fn string(bytes: &[u8]) -> Vec<u8> {
     [&length.to_be_bytes(), bytes].concat()
 }
 
-/// The settings of a fresh board of 64 bytes but for its index and its offset.
+/// The settings of a fresh board of 64 bytes but for its index, its offset and its
+/// register.
 const SETTINGS: [u8; 12] = [0, 0, 1, 1, 0, b'S', 0, 0, b'C', 0, 0, 64];
 /// An index in which all entries are these two bytes.
 fn index(entry: [u8; 2]) -> Vec<u8> {
     entry.repeat(95)
 }
 
-/// Settings of these twelve bytes with the index of a board without files and
-/// the offset 0.
+/// Settings of these twelve bytes with the index of a board without files, the
+/// offset 0 and a cleared register.
 fn settings(first: &[u8]) -> Vec<u8> {
-    [first, &index([0xFF, 0xFF]), &[0]].concat()
+    [first, &index([0xFF, 0xFF]), &[0, 0x40]].concat()
 }
 
 /// A run in a stream.
@@ -51,6 +52,14 @@ fn run_case(settings: &[u8], memory: &[u8], reply: &[u8], frame: &[u8]) -> Vec<u
 
 /// A frame whose one block is refused with 21.
 const UNKNOWN: &[u8] = b"\0\0\0\0\0\x01Z00\x02X\x04";
+
+/// The register that a run of that frame leaves of a cleared one, by its number.
+fn printed_register(number: u8) -> u8 {
+    match number {
+        0 => 0x60,
+        _ => 0x40,
+    }
+}
 
 /// What is printed of a run of that frame before the settings, by its number.
 fn printed_before(number: u8) -> &'static str {
@@ -65,14 +74,14 @@ fn a_fresh_board() {
     let case = [b"NC".to_vec(), string(&[0xFF; 64])].concat();
     let zeros = "00".repeat(64);
     let none = "FFFF".repeat(95);
-    let line = format!("0 0 0 1 1 0 83 0 0 67 0 64 {none} 0 {zeros}\n");
+    let line = format!("0 0 0 1 1 0 83 0 0 67 0 64 {none} 0 64 {zeros}\n");
     assert_eq!(lines(&case), line);
     let case = [b"NC".to_vec(), string(&[0xFF; 300])].concat();
     let zeros = "00".repeat(300);
-    let line = format!("0 0 0 1 1 0 83 0 0 67 0 300 {none} 0 {zeros}\n");
+    let line = format!("0 0 0 1 1 0 83 0 0 67 0 300 {none} 0 64 {zeros}\n");
     assert_eq!(lines(&case), line);
     let case = [b"NZ".to_vec(), string(b"\xAB")].concat();
-    let zeros = format!("0 0 0 0 0 0 0 0 0 0 0 {} 0", "0000".repeat(95));
+    let zeros = format!("0 0 0 0 0 0 0 0 0 0 0 {} 0 0", "0000".repeat(95));
     assert_eq!(lines(&case), format!("10 {zeros} AB\n"));
     let case = [b"NC".to_vec(), string(b"")].concat();
     assert_eq!(lines(&case), format!("11 {zeros} -\n"));
@@ -89,13 +98,15 @@ fn a_run() {
     let none = "FFFF".repeat(95);
     assert_eq!(
         lines(&case),
-        format!("0 1 1 1 21 37 0 0 1 1 0 83 0 0 67 0 64 {none} 0 {memory} {nuls}{reply}04{rest}\n")
+        format!(
+            "0 1 1 1 21 37 0 0 1 1 0 83 0 0 67 0 64 {none} 0 96 {memory} {nuls}{reply}04{rest}\n"
+        )
     );
     let others = settings(&[24, 1, 2, 3, 4, 5, 6, 7, 8, 9, 0x12, 0x34]);
     let case = run_case(&others, b"", b"\x01", frame);
     assert_eq!(
         lines(&case),
-        format!("1 0 0 0 0 0 24 1 2 3 4 5 6 7 8 9 4660 {none} 0 - 01\n")
+        format!("1 0 0 0 0 0 24 1 2 3 4 5 6 7 8 9 4660 {none} 0 64 - 01\n")
     );
 }
 
@@ -124,14 +135,15 @@ fn indices() {
         (counted, 1),
         (index([0, 0]), 1),
     ] {
-        let settings = [first.as_slice(), &index, &[0]].concat();
+        let settings = [first.as_slice(), &index, &[0, 0x40]].concat();
         let case = run_case(&settings, &memory, &[0xEE; 332], UNKNOWN);
         let before = printed_before(number);
         let hex = |bytes: &[u8]| -> String {
             let digits = bytes.iter().map(|byte| format!("{byte:02X}"));
             digits.collect()
         };
-        let settings = format!("0 0 1 1 0 83 0 0 67 2 0 {} 0", hex(&index));
+        let register = printed_register(number);
+        let settings = format!("0 0 1 1 0 83 0 0 67 2 0 {} 0 {register}", hex(&index));
         let (memory, reply) = (hex(&memory), "EE".repeat(332));
         assert_eq!(
             lines(&case),
@@ -157,7 +169,8 @@ fn unused_amounts() {
         let before = printed_before(number);
         let (memory, reply) = ("00".repeat(300), "EE".repeat(364));
         let none = "FFFF".repeat(95);
-        let settings = format!("0 0 1 1 0 83 0 0 67 0 {amount} {none} 0");
+        let register = printed_register(number);
+        let settings = format!("0 0 1 1 0 83 0 0 67 0 {amount} {none} 0 {register}");
         assert_eq!(
             lines(&case),
             format!("{before} {settings} {memory} {reply}\n")
@@ -175,8 +188,9 @@ fn offsets() {
         let mut settings = settings(&SETTINGS);
         settings[202] = byte;
         let case = run_case(&settings, &[0; 64], &[0xEE; 128], UNKNOWN);
-        let before = printed_before(u8::from(!(-9..=9).contains(&printed)));
-        let settings = format!("0 0 1 1 0 83 0 0 67 0 64 {none} {printed}");
+        let number = u8::from(!(-9..=9).contains(&printed));
+        let (before, register) = (printed_before(number), printed_register(number));
+        let settings = format!("0 0 1 1 0 83 0 0 67 0 64 {none} {printed} {register}");
         assert_eq!(
             lines(&case),
             format!("{before} {settings} {memory} {reply}\n")
@@ -184,16 +198,88 @@ fn offsets() {
     }
 }
 
-/// "settings of another length": the ten alone too, and those without an index or
-/// without an offset.
+/// "the register, one byte", stands behind the offset and is printed in decimal,
+/// never with "-".
+#[test]
+fn registers() {
+    let none = "FFFF".repeat(95);
+    let (memory, reply) = ("00".repeat(64), "EE".repeat(128));
+    for register in 0..=255 {
+        let mut settings = settings(&SETTINGS);
+        settings[203] = register;
+        let case = run_case(&settings, &[0; 64], &[0xEE; 128], UNKNOWN);
+        let (number, left) = match register {
+            0x40..=0x7F => (0, register | 0x20),
+            _ => (1, register),
+        };
+        let before = printed_before(number);
+        let settings = format!("0 0 1 1 0 83 0 0 67 0 64 {none} 0 {left}");
+        assert_eq!(
+            lines(&case),
+            format!("{before} {settings} {memory} {reply}\n")
+        );
+    }
+}
+
+/// The register's reply, its data one byte.
+#[test]
+fn a_register_read() {
+    let mut settings = settings(&SETTINGS);
+    settings[203] = 0x55;
+    let frame = b"\0\0\0\0\0\x01Z00\x02F*\x04";
+    let case = run_case(&settings, &[0; 64], &[0xEE; 128], frame);
+    let none = "FFFF".repeat(95);
+    let settings = format!("0 0 1 1 0 83 0 0 67 0 64 {none} 0 64");
+    let (memory, nuls) = ("00".repeat(64), "00".repeat(20));
+    let reply = format!("{nuls}013030300245{}", "2A55033030433904");
+    let rest = "EE".repeat(128 - 34);
+    assert_eq!(
+        lines(&case),
+        format!("0 1 0 0 0 34 {settings} {memory} {reply}{rest}\n")
+    );
+}
+
+/// "settings (string), bits (number)" and "number, the settings".
+#[test]
+fn port_errors() {
+    let none = "FFFF".repeat(95);
+    for (register, bits, number, left) in [
+        (0x41, 0x00, 0, 65),
+        (0x40, 0x07, 0, 71),
+        (0x40, 0xFF, 0, 71),
+        (0x7F, 0x00, 0, 127),
+        (0x00, 0x07, 1, 0),
+        (0xC0, 0x07, 1, 192),
+        (0xFF, 0x40, 1, 255),
+    ] {
+        let mut right = settings(&SETTINGS);
+        right[203] = register;
+        let printed = format!("{number} 0 0 1 1 0 83 0 0 67 0 64 {none} 0 {left}\n");
+        assert_eq!(lines(&port_case(&right, bits)), printed);
+        let mut other = settings(&[99, 1, 2, 3, 4, 5, 6, 7, 8, 9, 0x12, 0x34]);
+        other[202..].copy_from_slice(&[0x80, register]);
+        let printed = format!("{number} 99 1 2 3 4 5 6 7 8 9 4660 {none} -128 {left}\n");
+        assert_eq!(lines(&port_case(&other, bits)), printed);
+    }
+}
+
+/// The port driver's call in a stream.
+fn port_case(settings: &[u8], bits: u8) -> Vec<u8> {
+    [b"P".as_slice(), &string(settings), &[bits]].concat()
+}
+
+/// "settings of another length": the ten alone too, and those without an index,
+/// without an offset or without a register.
 #[test]
 fn settings_of_another_length() {
-    for length in (0..=400).filter(|&length| length != 203) {
+    for length in (0..=400).filter(|&length| length != 204) {
         let mut settings = settings(&SETTINGS);
         settings.resize(length, 0xFF);
-        let case = run_case(&settings, &[0; 64], &[0; 128], b"");
-        let expected = ("bad case\n".to_string(), Ended::BadCase);
-        assert_eq!(replayed(&case), expected, "{length}");
+        let run = run_case(&settings, &[0; 64], &[0; 128], b"");
+        for case in [run, port_case(&settings, 0)] {
+            let expected = ("bad case\n".to_string(), Ended::BadCase);
+            assert_eq!(replayed(&case), expected, "{length}");
+        }
     }
 }
 
@@ -283,18 +369,21 @@ fn a_temperature() {
     assert_eq!(lines(b"T\x80\x80\x00"), "1 0\n");
 }
 
-/// A case of request 6 or 9 that ends too early, wherever it ends; one byte more
-/// begins the next case.
+/// A case of request 6, 9 or 10 that ends too early, wherever it ends; one byte
+/// more begins the next case.
 #[test]
 fn reckoning_cut_short() {
     let renewal = b"D\x07\xD1\x01\x1F\x00\x01".as_slice();
     let weekday = b"Y\x07\xD0\x01\x01".as_slice();
     let days = b"B\x07\xD0\x01\x01\x08\x33\x0C\x1F".as_slice();
+    let port = port_case(&settings(&SETTINGS), 0x02);
+    let noted = format!("0 0 0 1 1 0 83 0 0 67 0 64 {} 0 66\n", "FFFF".repeat(95));
     for (case, line) in [
         (renewal, "0 2001 2 28\n"),
         (weekday, "0 7\n"),
         (days, "0 36524\n"),
         (b"T\xFE\x00\x19", "0 23\n"),
+        (&port, &noted),
     ] {
         for length in 1..case.len() {
             let stream = [case, &case[..length]].concat();
@@ -315,9 +404,12 @@ fn bad_cases_end_the_stream() {
     assert_eq!(lines(b""), "");
     assert_eq!(lines(&good), good_line);
     let without_index = run_case(&SETTINGS, b"", b"", b"");
-    let mut without_offset = settings(&SETTINGS);
-    without_offset.pop();
-    let without_offset = run_case(&without_offset, b"", b"", b"");
+    let mut less = settings(&SETTINGS);
+    less.pop();
+    let without_register = run_case(&less, b"", b"", b"");
+    let port_without_register = port_case(&less, 0);
+    less.pop();
+    let without_offset = run_case(&less, b"", b"", b"");
     for bad in [
         b"X".as_slice(),
         b"n",
@@ -332,6 +424,11 @@ fn bad_cases_end_the_stream() {
         b"J\x01\0\0\0\0",
         &without_index,
         &without_offset,
+        &without_register,
+        &port_without_register,
+        b"P",
+        b"P\0\0\0",
+        b"p",
     ] {
         let stream = [&good, bad].concat();
         let expected = (format!("{good_line}bad case\n"), Ended::BadCase);
@@ -386,6 +483,7 @@ fn what_is_encoded_is_read_again() {
                 unused: 0x0B0C,
                 index: Index::empty().with(b' ', 0x0D0E).with(b'~', 0x0F10),
                 offset: -0x11,
+                register: 0x92,
                 ..Settings::default().with_fields([1, 2, 3, 4, 5, 6, 7, 8, 9, 10])
             },
             memory: text(256),
@@ -422,6 +520,13 @@ fn what_is_encoded_is_read_again() {
         Case::Temperature {
             offset: -0x12,
             reading: -0x1314,
+        },
+        Case::Port {
+            settings: Settings {
+                register: 0x73,
+                ..Settings::default().with_fields([11, 12, 13, 14, 15, 16, 17, 18, 19, 20])
+            },
+            bits: 0x95,
         },
     ] {
         let bytes = case.encode();

@@ -176,11 +176,11 @@ fn the_stored_amount_is_told() {
             files: 200,
             ..kit.settings
         };
-        let board = Board {
+        let mut board = Board {
             settings,
             memory: &mut memory,
         };
-        let reply = get(&board, b"#").expect("it is done");
+        let reply = get(&mut board, b"#").expect("it is done");
         assert_eq!(pool_of(&reply), format!("0080,{unused:04X}"));
     }
 }

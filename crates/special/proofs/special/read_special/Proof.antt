@@ -32,6 +32,9 @@ tell-requires c κs = search reading
 reply-requires : tie.Need-reply-requires
 reply-requires c κs = search reading
 
+after-told-requires : tie.Need-after-told-requires
+after-told-requires c κs = search reading
+
 same-length : tie.Need-same-length
 same-length c = search reading
 
@@ -52,5 +55,6 @@ read-special-spec =
     returns-3
     tell-requires
     reply-requires
+    after-told-requires
     same-length
     returns-4)

@@ -21,6 +21,9 @@ set-address-requires c κs = search labelled
 set-offset-requires : tie.Need-set-offset-requires
 set-offset-requires c κs = search labelled
 
+clear-errors-requires : tie.Need-clear-errors-requires
+clear-errors-requires c κs = search labelled
+
 quiet-requires : tie.Need-quiet-requires
 quiet-requires c κs = search labelled
 
@@ -49,7 +52,11 @@ unfolding setBy
 returns-6 c = search labelled
 
 returns-7 : tie.Need-returns-7
+unfolding setBy
 returns-7 c = search labelled
+
+returns-8 : tie.Need-returns-8
+returns-8 c = search labelled
 
 pub set-by-spec : {M : Type 1} → statement M
 set-by-spec =
@@ -61,6 +68,7 @@ set-by-spec =
     set-date-requires
     set-address-requires
     set-offset-requires
+    clear-errors-requires
     quiet-requires
     returns
     returns-2
@@ -68,4 +76,5 @@ set-by-spec =
     returns-4
     returns-5
     returns-6
-    returns-7)
+    returns-7
+    returns-8)

@@ -8,8 +8,8 @@ tell-time-requires c κs = search telling
 tell-speaker-requires : tie.Need-tell-speaker-requires
 tell-speaker-requires c κs = search telling
 
-tell-format-requires : tie.Need-tell-format-requires
-tell-format-requires c κs = search telling
+tell-byte-requires : tie.Need-tell-byte-requires
+tell-byte-requires c κs = search telling
 
 tell-date-requires : tie.Need-tell-date-requires
 tell-date-requires c κs = search telling
@@ -19,6 +19,9 @@ cast-tell-records c = search telling
 
 tell-records-requires : tie.Need-tell-records-requires
 tell-records-requires c κs = search telling
+
+tell-byte-requires-2 : tie.Need-tell-byte-requires-2
+tell-byte-requires-2 c κs = search telling
 
 tell-pool-requires : tie.Need-tell-pool-requires
 tell-pool-requires c κs = search telling
@@ -59,16 +62,23 @@ same-length-6 c = search telling
 returns-6 : tie.Need-returns-6
 returns-6 c = search telling
 
+same-length-7 : tie.Need-same-length-7
+same-length-7 c = search telling
+
+returns-7 : tie.Need-returns-7
+returns-7 c = search telling
+
 pub tell-spec : {M : Type 1} → statement M
 tell-spec =
     tie.close
     (tie.spec
     tell-time-requires
     tell-speaker-requires
-    tell-format-requires
+    tell-byte-requires
     tell-date-requires
     cast-tell-records
     tell-records-requires
+    tell-byte-requires-2
     tell-pool-requires
     same-length
     returns
@@ -81,4 +91,6 @@ tell-spec =
     same-length-5
     returns-5
     same-length-6
-    returns-6)
+    returns-6
+    same-length-7
+    returns-7)

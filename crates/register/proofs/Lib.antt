@@ -1,0 +1,3 @@
+-- Laws of the serial error status register.
+pub mod Bits
+pub mod Noting

@@ -1,0 +1,2 @@
+-- The serial error status register.
+pub mod Register
