@@ -322,7 +322,8 @@ pagozkin_corrected pagozkin_add_offset(int8_t offset, int16_t reading) PAGOZKIN_
 /* "Parity, framing and time-out bits come from the port driver through a call, which ignores other bits.": 0, or 1 where the
  * register's fixed bits are wrong. bits are PAGOZKIN_ERROR_PARITY, .._FRAMING and .._TIME_OUT, any of them together; one that is not
  * there stays as it was. Nothing else of the settings is looked at. Between runs, not while one runs: the settings that a run answers
- * are made from those which it was handed, so that bits set meanwhile would be lost. */
+ * are made from those which it was handed, so that bits set meanwhile would be lost. What was seen while a frame came in is best set
+ * before that frame is run: then F "*" in it tells it. */
 pagozkin_driven pagozkin_port_errors(pagozkin_settings settings, uint8_t bits) PAGOZKIN_MUST_USE;
 
 #ifdef __cplusplus

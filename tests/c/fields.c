@@ -409,6 +409,8 @@ static void errors(void)
         is("the register as it was", reply[27], (size_t)value);
         IS(a.settings.errors, PAGOZKIN_NO_ERRORS);
         IS(pagozkin_run(s, memory, MEMORY, reply, sizeof reply, BYTES("_01Z00_02E4_04")).settings.errors, PAGOZKIN_NO_ERRORS);
+        IS(pagozkin_run(s, memory, MEMORY, reply, sizeof reply, BYTES("_01Z00_02E4_03_02F*_04")).tally.done, 2);
+        is("the register behind E \"4\" in one frame", reply[27], PAGOZKIN_NO_ERRORS);
         for (size_t i = 0; i < sizeof each / sizeof each[0]; i++) {
             a = pagozkin_run(s, memory, MEMORY, reply, sizeof reply, (const uint8_t *)each[i].sent, strlen(each[i].sent));
             is("the register with that bit", a.settings.errors, (size_t)(value | each[i].sets));

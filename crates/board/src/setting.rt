@@ -9,6 +9,8 @@ use temperature::offset::is_offset;
 ghost use mathlib.Core.Path.{_≡_};
 ghost use mathlib.Core.Bool.{_&&_, _||_};
 ghost use Rattle.octets.specs.Choice.{_is_, _≤?_};
+ghost use Rattle.temperature.specs.Offset.{isOffset};
+ghost use Rattle.register.specs.Register.{isRegister};
 ghost use Rattle.board.specs.Settings.{FORMAT-S, FORMAT-M, OFF, ON, inDate, inRange, withTime, withDate, withFormat, withSpeaker, withAddress, withOffset, withErrors, cleared, withFiles};
 
 // time formats "S" and "M"
@@ -135,8 +137,18 @@ fn is_speaker(speaker: u8) -> bool
     speaker == OFF || speaker == ON
 }
 
-// "time, date, speaker, format, type are in range. Any address 00 to FF is in range."; request 9: an offset is -9 to 9; request 10:
-// a register has its fixed bits.
+// Of the settings that requests added, those with a range of their own: request 10, a register has its fixed bits; request 9, an offset
+// is -9 to 9.
+fn added_in_range(s: Settings) -> bool
+    ensures { λ r. ⌜ r ≡ (isRegister (s .errors) && isOffset (s .offset)) ⌝ }
+{
+    if !is_register(s.errors) {
+        return false;
+    }
+    is_offset(s.offset)
+}
+
+// "time, date, speaker, format, type are in range. Any address 00 to FF is in range."; and what requests 9 and 10 ask.
 pub fn in_range(s: Settings) -> bool
     ensures { λ r. ⌜ r ≡ inRange s ⌝ }
 {
@@ -155,8 +167,5 @@ pub fn in_range(s: Settings) -> bool
     if !is_own_type(s.own) {
         return false;
     }
-    if !is_register(s.errors) {
-        return false;
-    }
-    is_offset(s.offset)
+    added_in_range(s)
 }

@@ -8,17 +8,17 @@ use Rattle.renewal.specs.Renewing.{isCount, yearOf, monthOf, isYear, kept, reac
 use Rattle.renewal.specs.Days.{weekday, daysBetween}
 use Rattle.temperature.specs.Correcting.{isReading, addOffset}
 use Rattle.sign.specs.Errors.{portErrors}
-use Rattle.sheet.specs.Sheet.{bytes, start, inTurn, onFresh}
+use Rattle.sheet.specs.Sheet.{Every, bytes, start, inTurn, onFresh}
 use Rattle.sheet.proofs.Computing.{base}
+use Rattle.sheet.proofs.Examples.{_&_}
 use Rattle.cases.specs.Numbers.{numberOf, blockNumber, holds, allHold, times, numbersTable}
 use Rattle.cases.specs.Dates.{eachWay, datesTable}
 use Rattle.cases.specs.Unused.{wrongOn, unusedTable}
 use Rattle.cases.specs.Index.{misplaced, indexTable}
-use Rattle.cases.specs.Renewals.{AllAnswer, renewalsTable}
-use Rattle.cases.specs.Temperatures.{offsetsTable, AllMeasure, temperaturesTable}
-use Rattle.cases.specs.Faults.{registersTable, faultsTable}
-use Rattle.cases.specs.Faults as faults-of
-use Rattle.cases.specs.Witnesses.{AllShow, witnesses}
+use Rattle.cases.specs.Renewals.{Answers, renewalsTable}
+use Rattle.cases.specs.Temperatures.{offsetsTable, Measures, temperaturesTable}
+use Rattle.cases.specs.Faults.{Shows as ShowsFault, registersTable, faultsTable}
+use Rattle.cases.specs.Witnesses.{Shows, witnesses}
 
 pub numbers : allHold numbersTable ≡ true
 unfolding numberOf blockNumber holds allHold times numbersTable bytes start inTurn onFresh base
@@ -36,31 +36,31 @@ pub indices : allHold indexTable ≡ true
 unfolding numberOf blockNumber holds allHold misplaced indexTable bytes start inTurn onFresh base
 indices = refl
 
-pub renewals : AllAnswer renewalsTable
+pub renewals : Every Answers renewalsTable
 unfolding
     renewalsTable
     february monthLength isDate floorDiv floorMod
     exists monthNumber lengthOf daysBefore dayNumber
     isCount yearOf monthOf isYear kept reached renewalDate
     weekday daysBetween
-renewals = (refl, (refl, (refl, (refl, (refl, (refl, (refl, (refl, (refl, (refl, (refl, (refl, (refl, (refl, (refl, (refl, (refl, (refl, (refl, (refl, (refl, (refl, (refl, (refl, (refl, (refl, (refl, (refl, (refl, (refl, (refl, (refl, (refl, (refl, (refl, (refl, (refl, (refl, (refl, (refl, (refl, tt)))))))))))))))))))))))))))))))))))))))))
+renewals = refl & refl & refl & refl & refl & refl & refl & refl & refl & refl & refl & refl & refl & refl & refl & refl & refl & refl & refl & refl & refl & refl & refl & refl & refl & refl & refl & refl & refl & refl & refl & refl & refl & refl & refl & refl & refl & refl & refl & refl & refl & tt
 
 pub offsets : allHold offsetsTable ≡ true
 unfolding numberOf blockNumber holds allHold offsetsTable bytes start inTurn onFresh base
 offsets = refl
 
-pub temperatures : AllMeasure temperaturesTable
+pub temperatures : Every Measures temperaturesTable
 unfolding temperaturesTable isReading addOffset bytes base
-temperatures = (refl, (refl, (refl, (refl, (refl, (refl, (refl, (refl, (refl, (refl, (refl, (refl, (refl, (refl, (refl, (refl, (refl, (refl, (refl, (refl, (refl, (refl, (refl, (refl, (refl, tt)))))))))))))))))))))))))
+temperatures = refl & refl & refl & refl & refl & refl & refl & refl & refl & refl & refl & refl & refl & refl & refl & refl & refl & refl & refl & refl & refl & refl & refl & refl & refl & tt
 
 pub registers : allHold registersTable ≡ true
 unfolding numberOf blockNumber holds allHold registersTable bytes start inTurn onFresh base
 registers = refl
 
-pub faults : faults-of.AllShow faultsTable
+pub faults : Every ShowsFault faultsTable
 unfolding faultsTable blockNumber portErrors bytes start inTurn onFresh base
-faults = ((refl, refl), ((refl, refl), ((refl, refl), ((refl, refl), ((refl, refl), ((refl, refl), ((refl, refl), ((refl, refl), ((refl, refl), ((refl, refl), ((refl, refl), ((refl, refl), ((refl, refl), ((refl, refl), ((refl, refl), ((refl, refl), ((refl, refl), ((refl, refl), ((refl, refl), ((refl, refl), ((refl, refl), ((refl, refl), ((refl, refl), ((refl, refl), ((refl, refl), ((refl, refl), ((refl, refl), ((refl, refl), (refl, ((refl, refl), ((refl, refl), (refl, (refl, (refl, (refl, (refl, (refl, (refl, (refl, (refl, (refl, (refl, (refl, tt)))))))))))))))))))))))))))))))))))))))))))
+faults = (refl, refl) & (refl, refl) & (refl, refl) & (refl, refl) & (refl, refl) & (refl, refl) & (refl, refl) & (refl, refl) & (refl, refl) & (refl, refl) & (refl, refl) & (refl, refl) & (refl, refl) & (refl, refl) & (refl, refl) & (refl, refl) & (refl, refl) & (refl, refl) & (refl, refl) & (refl, refl) & (refl, refl) & (refl, refl) & (refl, refl) & (refl, refl) & (refl, refl) & (refl, refl) & (refl, refl) & (refl, refl) & refl & (refl, refl) & (refl, refl) & refl & refl & refl & refl & refl & refl & refl & refl & refl & refl & refl & refl & tt
 
-pub shown : AllShow witnesses
+pub shown : Every Shows witnesses
 unfolding witnesses bytes start inTurn onFresh base
-shown = (refl, (refl, (refl, (refl, (refl, (refl, (refl, (refl, (refl, (refl, tt))))))))))
+shown = refl & refl & refl & refl & refl & refl & refl & refl & refl & refl & tt

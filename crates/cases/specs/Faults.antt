@@ -48,10 +48,6 @@ Shows (tells fs r) =
 Shows (drives r b n x) = portErrors (late r) b ≡ drivenAs n (late x)
 Shows (example e) = Says e
 
-abbrev pub AllShow : List Fault → Type 0
-AllShow [] = Unit {0}
-AllShow (f ∷ fs) = Shows f × AllShow fs
-
 -- a block that is refused with 21, and one with 20
 abbrev pub UNKNOWN : String
 UNKNOWN = "_01Z00_02D'S_04"

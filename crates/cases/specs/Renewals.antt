@@ -21,10 +21,6 @@ Answers (renews d n r) = renewalDate d n ≡ r
 Answers (falls d n w) = weekday d ≡ dayOfWeek n w
 Answers (apart a b n z) = daysBetween a b ≡ daysApart n z
 
-abbrev pub AllAnswer : List Reckoned → Type 0
-AllAnswer [] = Unit {0}
-AllAnswer (r ∷ rs) = Answers r × AllAnswer rs
-
 -- so many on
 abbrev pub on : ℕ → ℤ
 on n = pos n

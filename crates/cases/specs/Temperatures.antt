@@ -67,10 +67,6 @@ Measures (stores t d z) =
     ≡ outcomeAs 0 (tally 1 0 0 0 0) (warm t z) (zeros 64) (zeros 128)
 Measures (adds o r n z) = addOffset o r ≡ corrected n z
 
-abbrev pub AllMeasure : List Measured → Type 0
-AllMeasure [] = Unit {0}
-AllMeasure (x ∷ xs) = Measures x × AllMeasure xs
-
 unfoldable pub temperaturesTable : List Measured
 temperaturesTable =
     -- "so -9 to 9"; ""-0" and "+0" store the same offset."

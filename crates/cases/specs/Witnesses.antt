@@ -15,10 +15,6 @@ abbrev pub Shows : Witness → Type 0
 Shows (counts n fs d r p f) = onFresh n fs .answer .tally ≡ tally d r p f 0
 Shows (example e) = Says e
 
-abbrev pub AllShow : List Witness → Type 0
-AllShow [] = Unit {0}
-AllShow (w ∷ ws) = Shows w × AllShow ws
-
 -- TEXT A of ten bytes
 abbrev pub TEXT-A : String
 TEXT-A = "_01Z00_02E$AAU000AFF00_04"

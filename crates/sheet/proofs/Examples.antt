@@ -1,16 +1,16 @@
 -- Every starred example of document 01 holds: one statement, `examples`, by computing.
 use mathlib.Core.Path.{refl}
 use Rattle.sign.proofs.Alike.{reads-alike}
-use Rattle.sheet.specs.Sheet.{bytes, start, inTurn, onFresh, addressedAt, AllSay, table}
+use Rattle.sheet.specs.Sheet.{bytes, start, inTurn, onFresh, addressedAt, Says, Every, table}
 use Rattle.sheet.proofs.Computing.{base}
 
 infixr 10 _&_
--- one example and the others
-_&_ : {X Y : Type 0} → X → Y → X × Y
+-- one row and the others
+pub _&_ : {X Y : Type 0} → X → Y → X × Y
 x & y = (x, y)
 
 -- every example of the table holds
-pub examples : AllSay table
+pub examples : Every Says table
 unfolding bytes start inTurn onFresh addressedAt table base
 examples =
     refl & refl & refl

@@ -56,10 +56,10 @@ Says (stores m fs t) = take (length (bytes t)) (onFresh m fs .memory) ≡ bytes 
 Says (replies m fs t) = take (onFresh m fs .answer .tally .length) (onFresh m fs .reply) ≡ bytes t
 Says (alike f g) = (s : Settings) (m o : List ℕ) → run s m o (bytes f) ≡ run s m o (bytes g)
 
--- every example of a list
-abbrev pub AllSay : List Example → Type 0
-AllSay [] = Unit {0}
-AllSay (e ∷ es) = Says e × AllSay es
+-- every row of a table, by what a row says
+abbrev pub Every : {X : Type 0} → (X → Type 0) → List X → Type 0
+Every P [] = Unit {0}
+Every P (x ∷ xs) = P x × Every P xs
 
 -- the sheet
 unfoldable pub table : List Example
