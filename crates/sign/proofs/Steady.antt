@@ -2,7 +2,7 @@
 use Prim.Native.Nat.{ℕ, _+_, _≤_}
 use mathlib.Core.Path.{_≡_, refl, sym, ap, _∙_}
 use mathlib.Core.List.{List, [], _∷_}
-use mathlib.Core.Bool.{true, false, not}
+use mathlib.Core.Bool.{true, false, not, _&&_}
 use native.Mathlib.Omega.{arith}
 use lib.ListN.{length}
 use borrow.Author.Tests.{eqb-true, eqb-false, ltb-false, not-false, not-true}
@@ -38,7 +38,7 @@ use Rattle.keeping.proofs.Keeping.{block-effects}
 use Rattle.sign.specs.Run.{nothing, count, measure, State, state, onto, runBlocks, Outcome, untouched, runFrame, run}
 use Rattle.sign.specs.Fresh.{Making, freshSettings, fresh}
 use Rattle.sign.specs.Packing.{setsNoAddress}
-use Rattle.sign.specs.Errors.{faultsNoted, clearsNone}
+use Rattle.sign.specs.Errors.{errorsBehind, errorsThrough, clearsNone}
 use Rattle.sign.specs.Counts.{blockNumbers}
 use Rattle.sign.specs.declared.Tally.{Tally}
 
@@ -56,7 +56,7 @@ pub record Passed (ks : List Block) (st x : State) : Type 0 where
   pub buffer : length (st .now .memory) + 64 ≤ length (st .buffer) → length (x .buffer) ≡ length (st .buffer)
   pub sound : Plain ks → Sound (st .now) → Sound (x .now)
   pub address : setsNoAddress ks ≡ true → x .now .settings .address ≡ st .now .settings .address
-  pub errors : clearsNone ks ≡ true → x .now .settings .errors ≡ faultsNoted (st .now .settings .errors) (blockNumbers (st .now) ks)
+  pub errors : x .now .settings .errors ≡ errorsThrough (st .now .settings .errors) ks (blockNumbers (st .now) ks)
   pub quiet : NoReads ks → (x .buffer ≡ st .buffer) × (x .counts .length ≡ st .counts .length)
 
 -- a block without a reply
@@ -67,26 +67,30 @@ length-none t n s e =
     (choice (λ (u : Tally). u .length ≡ t .length) (n is 0) (λ e. refl)
     (λ e. choice (λ (u : Tally). u .length ≡ t .length) (t .reason is 0) (λ e. refl) (λ e. refl)))
 
--- a block that does not clear the register leaves it with the bit of its number
-block-errors : (b : Board) (k : Block) → clears (k .command) (k .text) ≡ false →
-    runBlock b k .after .settings .errors ≡ faultNoted (b .settings .errors) (runBlock b k .number)
-unfolding faultNoted
-block-errors b k n =
+-- what a block leaves in the register, by its number
+block-errors : (b : Board) (k : Block) → runBlock b k .after .settings .errors ≡ errorsBehind (b .settings .errors) k (runBlock b k .number)
+unfolding errorsBehind faultNoted
+block-errors b k =
     let f = block-effects b k in
     let x = runBlock b k in
     by-test (x .number is 0)
-    (λ e. let z = eqb-true (x .number) 0 e in f .errors z ∙ rw (n, z))
-    (λ e. ap (λ (y : Board). y .settings .errors) (f .refused (eqb-false (x .number) 0 e) .0))
+    (λ e. let z = eqb-true (x .number) 0 e in f .errors z ∙ rw z)
+    (λ e. ap (λ (y : Board). y .settings .errors) (f .refused (eqb-false (x .number) 0 e) .0) ∙ rw e)
 
--- a bit that is set stays, whatever the numbers
-faults-stay : (ns : List ℕ) (r k : ℕ) → bit r k ≡ 1 → bit (faultsNoted r ns) k ≡ 1
-unfolding faultsNoted
-faults-stay [] r k h = h
-faults-stay (n ∷ ns) r k h = faults-stay ns (faultNoted r n) k (fault-stays r n k h)
+-- a bit that is set stays where no block clears, whatever the numbers
+errors-stay : (ks : List Block) → clearsNone ks ≡ true → (ns : List ℕ) (r k : ℕ) → bit r k ≡ 1 → bit (errorsThrough r ks ns) k ≡ 1
+unfolding errorsThrough errorsBehind clearsNone
+errors-stay [] c ns r k h = h
+errors-stay (b ∷ ks) c [] r k h = h
+errors-stay (b ∷ ks) c (n ∷ ns) r k h =
+    let p = split (not (clears (b .command) (b .text))) c in
+    errors-stay ks (p .1) ns (errorsBehind r b n) k
+    (choice (λ (x : ℕ). bit x k ≡ 1) (n is 0 && clears (b .command) (b .text))
+    (λ e. never (sym (split (n is 0) e .1) ∙ not-true (clears (b .command) (b .text)) (p .0))) (λ e. fault-stays r n k h))
 
 -- blocks, from any state
 pub run-passed : (ks : List Block) (st : State) → Passed ks st (runBlocks st ks)
-unfolding runBlocks onto setsNoAddress clearsNone blockNumbers faultsNoted
+unfolding runBlocks onto setsNoAddress blockNumbers errorsThrough
 run-passed [] st =
     record {
       own = refl;
@@ -94,7 +98,7 @@ run-passed [] st =
       buffer = λ h. refl;
       sound = λ p s. s;
       address = λ n. refl;
-      errors = λ n. refl;
+      errors = refl;
       quiet = λ n. (refl, refl);
     }
 run-passed (k ∷ ks) st =
@@ -111,10 +115,7 @@ run-passed (k ∷ ks) st =
       address = λ n.
           let p = split (not (setsAddress (k .command) (k .text))) n in
           i .address (p .1) ∙ f .address (not-true (setsAddress (k .command) (k .text)) (p .0));
-      errors = λ n.
-          let p = split (not (clears (k .command) (k .text))) n in
-          let e = block-errors (st .now) k (not-true (clears (k .command) (k .text)) (p .0)) in
-          i .errors (p .1) ∙ ap (λ (r : ℕ). faultsNoted r (blockNumbers (x .after) ks)) e;
+      errors = i .errors ∙ ap (λ (r : ℕ). errorsThrough r ks (blockNumbers (x .after) ks)) (block-errors (st .now) k);
       quiet = λ n.
           let r = f .quiet (n .0) in
           let q = i .quiet (n .1) in
@@ -128,10 +129,10 @@ abbrev pub SetsNone : Reading → Type 0
 SetsNone (refused n) = Unit {0}
 SetsNone (frame h bs) = setsNoAddress bs ≡ true
 
--- the register e is that of settings s with what blocks of a frame have set, where none of them clears it
+-- the register e is what the blocks of a frame make of that of settings s
 abbrev pub Noted : Settings → List ℕ → Reading → ℕ → Type 0
 Noted s m (refused n) e = Unit {0}
-Noted s m (frame h bs) e = clearsNone bs ≡ true → e ≡ faultsNoted (s .errors) (blockNumbers (board s m) bs)
+Noted s m (frame h bs) e = e ≡ errorsThrough (s .errors) bs (blockNumbers (board s m) bs)
 
 -- what a run keeps, by what was read
 pub record Steady (s : Settings) (m o : List ℕ) (r : Reading) (x : Outcome) : Type 0 where
@@ -188,16 +189,16 @@ pub run-untouched : (s : Settings) (m o f : List ℕ) → (run s m o f .answer .
     run s m o f ≡ untouched (run s m o f .answer .number) s m o
 run-untouched s m o f n = run-steady s m o f .refused n
 
--- request 10, where no block clears the register: it is the old one with the bit of each block's number, and nothing else
-module _ (s : Settings) (m o f h : List ℕ) (bs : List Block) (e : read f ≡ frame h bs) (n : clearsNone bs ≡ true) where
-  pub run-faults : run s m o f .answer .number ≡ 0 → run s m o f .answer .settings .errors ≡ faultsNoted (s .errors) (blockNumbers (board s m) bs)
-  run-faults z = (rw e at (run-steady s m o f .errors z)) n
+-- request 10: the register behind a run, from the one before it by the numbers of the blocks
+module _ (s : Settings) (m o f h : List ℕ) (bs : List Block) (e : read f ≡ frame h bs) where
+  pub run-register : run s m o f .answer .number ≡ 0 → run s m o f .answer .settings .errors ≡ errorsThrough (s .errors) bs (blockNumbers (board s m) bs)
+  run-register z = rw e at (run-steady s m o f .errors z)
 
   -- "a bit stays until cleared"
-  pub run-bits : (k : ℕ) → bit (s .errors) k ≡ 1 → bit (run s m o f .answer .settings .errors) k ≡ 1
-  run-bits k g =
+  pub run-bits : clearsNone bs ≡ true → (k : ℕ) → bit (s .errors) k ≡ 1 → bit (run s m o f .answer .settings .errors) k ≡ 1
+  run-bits c k g =
       by-test (run s m o f .answer .number is 0)
-      (λ z. rw (run-faults (eqb-true _ 0 z)) (faults-stay (blockNumbers (board s m) bs) (s .errors) k g))
+      (λ z. rw (run-register (eqb-true _ 0 z)) (errors-stay bs c (blockNumbers (board s m) bs) (s .errors) k g))
       (λ z. rw (run-untouched s m o f (eqb-false _ 0 z)) g)
 
 -- ---- a fresh board
