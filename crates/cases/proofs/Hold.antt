@@ -43,7 +43,12 @@ unfolding
     exists monthNumber lengthOf daysBefore dayNumber
     isCount yearOf monthOf isYear kept reached renewalDate
     weekday daysBetween
-renewals = refl & refl & refl & refl & refl & refl & refl & refl & refl & refl & refl & refl & refl & refl & refl & refl & refl & refl & refl & refl & refl & refl & refl & refl & refl & refl & refl & refl & refl & refl & refl & refl & refl & refl & refl & refl & refl & refl & refl & refl & refl & tt
+renewals =
+    refl & refl & refl & refl & refl & refl & refl & refl & refl & refl
+    & refl & refl & refl & refl & refl & refl & refl & refl & refl & refl
+    & refl & refl & refl & refl & refl & refl & refl & refl & refl & refl
+    & refl & refl & refl & refl & refl & refl & refl & refl & refl & refl
+    & refl & tt
 
 pub offsets : allHold offsetsTable ≡ true
 unfolding numberOf blockNumber holds allHold offsetsTable bytes start inTurn onFresh base
@@ -51,7 +56,10 @@ offsets = refl
 
 pub temperatures : Every Measures temperaturesTable
 unfolding temperaturesTable isReading addOffset bytes base
-temperatures = refl & refl & refl & refl & refl & refl & refl & refl & refl & refl & refl & refl & refl & refl & refl & refl & refl & refl & refl & refl & refl & refl & refl & refl & refl & tt
+temperatures =
+    refl & refl & refl & refl & refl & refl & refl & refl & refl & refl
+    & refl & refl & refl & refl & refl & refl & refl & refl & refl & refl
+    & refl & refl & refl & refl & refl & tt
 
 pub registers : allHold registersTable ≡ true
 unfolding numberOf blockNumber holds allHold registersTable bytes start inTurn onFresh base
@@ -59,7 +67,12 @@ registers = refl
 
 pub faults : Every ShowsFault faultsTable
 unfolding faultsTable blockNumber portErrors bytes start inTurn onFresh base
-faults = (refl, refl) & (refl, refl) & (refl, refl) & (refl, refl) & (refl, refl) & (refl, refl) & (refl, refl) & (refl, refl) & (refl, refl) & (refl, refl) & (refl, refl) & (refl, refl) & (refl, refl) & (refl, refl) & (refl, refl) & (refl, refl) & (refl, refl) & (refl, refl) & (refl, refl) & (refl, refl) & (refl, refl) & (refl, refl) & (refl, refl) & (refl, refl) & (refl, refl) & (refl, refl) & (refl, refl) & (refl, refl) & refl & (refl, refl) & (refl, refl) & refl & refl & refl & refl & refl & refl & refl & refl & refl & refl & refl & refl & tt
+faults =
+    (refl, refl) & (refl, refl) & (refl, refl) & (refl, refl) & (refl, refl) & (refl, refl) & (refl, refl) & (refl, refl) & (refl, refl) & (refl, refl)
+    & (refl, refl) & (refl, refl) & (refl, refl) & (refl, refl) & (refl, refl) & (refl, refl) & (refl, refl) & (refl, refl) & (refl, refl) & (refl, refl)
+    & (refl, refl) & (refl, refl) & (refl, refl) & (refl, refl) & (refl, refl) & (refl, refl) & (refl, refl) & (refl, refl) & refl & (refl, refl)
+    & (refl, refl) & refl & refl & refl & refl & refl & refl & refl & refl & refl
+    & refl & refl & refl & tt
 
 pub shown : Every Shows witnesses
 unfolding witnesses bytes start inTurn onFresh base

@@ -1,4 +1,4 @@
--- What blocks and a whole run keep: own type, every length, a sound board sound; and a fresh board is sound.
+-- What blocks and a whole run keep: own type, every length, a sound board sound; what they make of the register; and a fresh board is sound.
 use Prim.Native.Nat.{ℕ, _+_, _≤_}
 use mathlib.Core.Path.{_≡_, refl, sym, ap, _∙_}
 use mathlib.Core.List.{List, [], _∷_}
