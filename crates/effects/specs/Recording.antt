@@ -7,7 +7,7 @@ use Rattle.board.specs.Settings.{withErrors}
 use Rattle.board.specs.declared.Settings.{Settings}
 use Rattle.effects.specs.Effects.{board, Effect}
 
--- the register behind a block of that number: "A block refused with 20 sets the checksum bit; 21 or 23 sets the illegal command or
+-- the register with what is noted of a block of that number: "A block refused with 20 sets the checksum bit; 21 or 23 sets the illegal command or
 -- label bit; a bit stays until cleared."
 unfoldable pub faultNoted : ℕ → ℕ → ℕ
 faultNoted r n =

@@ -59,7 +59,7 @@ pub record Effects (b : Board) (c : ℕ) (d : List ℕ) (e : Effect) : Type 0 wh
       (k : ℕ) → (fileOf b k .head ! 0 ≡ d ! 0 → ⊥) → fileOf (e .after) k ≡ fileOf b k
   -- refused: no reply, and the board as it was but for the register, which is the old one with the bit of that number
   pub refused : (e .number ≡ 0 → ⊥) → (e .after ≡ board (withFault (b .settings) (e .number)) (b .memory)) × (e .reply ≡ [])
-  -- done: the register as it was, "a bit stays until cleared"
+  -- done: the register as it was, unless the command clears it: "a bit stays until cleared"
   pub errors : e .number ≡ 0 → e .after .settings .errors ≡ (if clears c d then CLEARED else b .settings .errors)
   -- a read that is done leaves the board as it was; "*" clears the register, and that is all that a read may change
   pub read : isRead c ≡ true → e .number ≡ 0 → e .after ≡ board (if clears c d then cleared (b .settings) else b .settings) (b .memory)

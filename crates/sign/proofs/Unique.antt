@@ -3,6 +3,7 @@ use Prim.Native.Nat.{ℕ}
 use mathlib.Core.Path.{_≡_, sym, ap, _∙_}
 use mathlib.Core.List.{List}
 use Rattle.board.specs.declared.Settings.{Settings}
+use Rattle.board.proofs.Unique.{unique}
 use Rattle.sign.specs.Run.{Outcome, outcome, run}
 use Rattle.sign.specs.Fresh.{Making, making, fresh}
 use Rattle.sign.specs.Errors.{portErrors}
@@ -33,4 +34,4 @@ module _ (t : ℕ) (m : List ℕ) {r r′ : Made} {a a′ : List ℕ} (p : makin
 
 -- whatever keeps the promise of `port_errors`: one answer
 pub driven-unique : (s : Settings) (bits : ℕ) (r r′ : Driven) → r ≡ portErrors s bits → r′ ≡ portErrors s bits → r ≡ r′
-driven-unique s bits r r′ p q = p ∙ sym q
+driven-unique s bits r r′ p q = unique p q
