@@ -2,6 +2,7 @@
 pub mod Plain
 pub mod Taken
 pub mod Sums
+pub mod Walks
 pub mod StepLaws
 pub mod BlockLoops
 pub mod Verdicts

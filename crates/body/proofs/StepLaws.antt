@@ -3,7 +3,7 @@ use mathlib.Core.Path.{_≡_, sym, ap, _∙_}
 use mathlib.Core.Bool.{Bool, true, false, _||_}
 use mathlib.Core.List.{List}
 use mathlib.Core.Logic.{_⊎_, ⊎-elim, inl, inr}
-use Prim.Native.Nat.{ℕ, _+_, _-_, _<_, _≤_, _^_}
+use Prim.Native.Nat.{ℕ, _+_, _-_, _%_, _<_, _≤_, _^_}
 use mir.Syntax.{w64}
 use mir.Val.{Fits}
 use native.Mathlib.Omega.{arith}
@@ -23,10 +23,12 @@ use Rattle.octets.proofs.Told.{four-none, four-some}
 use Rattle.body.specs.Sum.{checksum}
 use Rattle.body.specs.Body.{block, isEnd, follow, afterEtx, afterData, blockAt}
 use Rattle.body.specs.Steps.{placed, foundAt}
-use Rattle.body.specs.Walking.{part, Inside}
+use Rattle.body.specs.Walking.{part, Inside, opening, walked, left}
 use Rattle.body.specs.Readers.{placeBehind, placeAfter}
+use Rattle.body.specs.declared.walk.Walked.{Walked}
 use Rattle.body.specs.declared.BlockStep.{BlockStep}
 use Rattle.body.specs.declared.BlockStep.the-variants.{Stray, More, Last}
+use Rattle.body.proofs.Sums.{sum-block}
 
 -- ---- the end
 
@@ -135,33 +137,46 @@ module _ (s : List ℕ) (at c : ℕ) (f : c ≡ s ! (at + 1)) (k : 5 ≤ c) wher
   pub command-fits : length s < 2 ^ 64 → Fits w64 (at + 2)
   command-fits l = record { fits = omega (arith, there s (at + 1) (omega arith)) }
 
-  pub found-in : (to : ℕ) → to ≡ at + 2 + length (front isPlain (drop (at + 2) s)) → Inside s at to
-  found-in to t = record {
-    ordered = omega arith;
-    within = omega (arith, there s (at + 1) (omega arith), front-short (drop (at + 2) s), length-drop (at + 2) s);
-  }
+  pub command-in : at + 2 ≤ length s
+  command-in = omega (arith, there s (at + 1) (omega arith))
 
+-- its data, walked with a sum
+module _ (s : List ℕ) (at o : ℕ) (w : Walked) (e : w ≡ walked (at + 2) o (left s (at + 2))) where
+  ends : w .to ≡ at + 2 + length (left s (at + 2))
+  ends = ap (λ x. x .to) e
+
+  text : part (at + 2) (w .to) s ≡ left s (at + 2)
+  text = let z : w .to - (at + 2) ≡ length (left s (at + 2)) = omega (arith, ends) in rw z (take-front isPlain (drop (at + 2) s))
+
+  rest : drop (w .to) s ≡ behind isPlain (drop (at + 2) s)
+  rest = rw ends (sym (drop-drop (length (left s (at + 2))) (at + 2) s) ∙ drop-front isPlain (drop (at + 2) s))
+
+  module _ (c : ℕ) (f : c ≡ s ! (at + 1)) (k : 5 ≤ c) where
+    pub found-in : Inside s at (w .to)
+    found-in = record {
+      ordered = omega (arith, ends);
+      within = omega (arith, ends, there s (at + 1) (omega arith), front-short (drop (at + 2) s), length-drop (at + 2) s);
+    }
+
+    pub found-sum : o ≡ opening c → (r : ℕ) → r ≡ (w .sum + ETX) % 65536 → r ≡ checksum c (part (at + 2) (w .to) s)
+    found-sum h r q = rw text (sum-block c (left s (at + 2)) o (w .sum) r h (ap (λ x. x .sum) e) q)
+
+    pub found-block : (x : ℕ) → x ≡ s ! at → x ≡ STX → (r : BlockStep)
+        → r ≡ placed s at (afterData c (part (at + 2) (w .to) s) (drop (w .to) s)) → r ≡ foundAt s at
+    unfolding foundAt blockAt
+    found-block x d h r q = rw (head-at, ← d, h, get-at, ← f, plain c k, drop-drop, ← text, ← rest) q
+
+-- no block
 module _ (s : List ℕ) (at x : ℕ) (e : x ≡ s ! at) where
   pub found-no-stx : (x ≡ STX → ⊥) → Stray ≡ foundAt s at
   unfolding foundAt blockAt placed
   found-no-stx h = rw (head-at, ← e, ne-eqb x STX h)
 
-  module _ (h : x ≡ STX) (c : ℕ) (f : c ≡ s ! (at + 1)) where
-    pub found-no-command : c < 5 → Stray ≡ foundAt s at
-    unfolding foundAt blockAt placed
-    found-no-command k = rw (head-at, ← e, h, get-at, ← f, not-plain c k)
+  pub found-no-command : x ≡ STX → (c : ℕ) → c ≡ s ! (at + 1) → c < 5 → Stray ≡ foundAt s at
+  unfolding foundAt blockAt placed
+  found-no-command h c f k = rw (head-at, ← e, h, get-at, ← f, not-plain c k)
 
-    pub found-block : 5 ≤ c → (to : ℕ) → to ≡ at + 2 + length (front isPlain (drop (at + 2) s)) → (r : BlockStep)
-        → r ≡ placed s at (afterData c (part (at + 2) to s) (drop to s)) → r ≡ foundAt s at
-    unfolding foundAt blockAt
-    found-block k to t r q =
-        let l : List ℕ = drop (at + 2) s in
-        let z : to - (at + 2) ≡ length (front isPlain l) = omega arith in
-        let a : part (at + 2) to s ≡ front isPlain l = rw z (take-front isPlain l) in
-        let b : drop to s ≡ behind isPlain l = rw t (sym (drop-drop (length (front isPlain l)) (at + 2) s) ∙ drop-front isPlain l) in
-        rw (head-at, ← e, h, get-at, ← f, plain c k, drop-drop, ← a, ← b) q
-
-pub ruleset finding = (stx-fits, command-fits, found-in, found-no-stx, found-no-command, found-block, needs)
+pub ruleset finding = (stx-fits, command-fits, command-in, found-in, found-sum, found-block, found-no-stx, found-no-command, needs)
 
 -- ---- the reader
 

@@ -1,35 +1,43 @@
--- What holds while bytes are added up, its steps, and the sum of a block.
-use mathlib.Core.Path.{_≡_, refl, sym, _∙_}
+-- What holds while bytes in a row are tested and added up, its steps, and the sum of a block.
+use mathlib.Core.Path.{_≡_, refl, sym, ap, _∙_}
+use mathlib.Core.Bool.{Bool, true, false, _&&_}
 use mathlib.Core.List.{List, [], _∷_, _++_}
 use Prim.Native.Nat.{ℕ, _+_, _%_, _<_, _≤_}
-use native.Mathlib.Numerals.{add-one}
 use native.Mathlib.Omega.{arith}
 use borrow.Author.Needs.{needs}
 use lib.ListN.{length, drop, drop-of-length-le}
-use lib.Seq.{drop-cons}
-use Rattle.octets.specs.Choice.{_!_}
-use Rattle.octets.specs.Bytes.{STX, ETX}
+use Rattle.octets.specs.Choice.{all, _≤?_, _!_}
+use Rattle.octets.specs.Bytes.{STX, ETX, isPlain}
+use Rattle.octets.proofs.Spots.{drop-on}
+use Rattle.octets.proofs.Tests.{and-assoc, and-some}
 use Rattle.body.specs.Sum.{sumFrom, summed, checksum}
+use Rattle.body.specs.Walking.{opening, stretched}
+use Rattle.body.specs.declared.sum.Stretch.{Stretch}
 
--- the bytes up to place i are in the sum
-pub record Summing (s : List ℕ) (start sum i : ℕ) : Type 0 where
+-- the bytes up to place i are tested, and are in the sum
+pub record Stretching (s : List ℕ) (start : ℕ) (plain : Bool) (sum i : ℕ) : Type 0 where
   pub inside : i ≤ length s
+  pub tested : (plain && all isPlain (drop i s)) ≡ all isPlain s
   pub same : sumFrom sum (drop i s) ≡ sumFrom start s
 
-pub sum-start : (s : List ℕ) (start : ℕ) → Summing s start start 0
-sum-start s start = record { inside = omega arith; same = refl }
+pub stretch-start : (s : List ℕ) (start : ℕ) → Stretching s start true start 0
+stretch-start s start = record { inside = omega arith; tested = refl; same = refl }
 
-sum-step : (s : List ℕ) (a i : ℕ) → i < length s → sumFrom a (drop i s) ≡ sumFrom ((a + s ! i) % 65536) (drop (i + 1) s)
-unfolding sumFrom
-sum-step s a i h = rw (add-one, drop-cons s i 0)
+module _ {s : List ℕ} {start : ℕ} {plain : Bool} {sum i : ℕ} (g : Stretching s start plain sum i) where
+  pub stretch-next : i < length s → (p : Bool) → p ≡ (plain && 5 ≤? s ! i) → (y : ℕ) → y ≡ (sum + s ! i) % 65536 → Stretching s start p y (i + 1)
+  unfolding sumFrom all isPlain
+  stretch-next h p e y q = record {
+    inside = omega arith;
+    tested = rw e (and-assoc plain (5 ≤? s ! i) (all isPlain (drop (i + 1) s)) ∙ ap (λ l. plain && all isPlain l) (sym (drop-on s i h)) ∙ g .tested);
+    same = rw q (ap (sumFrom sum) (sym (drop-on s i h)) ∙ g .same);
+  }
 
-module _ {s : List ℕ} {start sum i : ℕ} (g : Summing s start sum i) where
-  pub sum-next : i < length s → (x y : ℕ) → x ≡ s ! i → y ≡ (sum + x) % 65536 → Summing s start y (i + 1)
-  sum-next h x y p q = record { inside = omega arith; same = rw (q, p) (sym (sum-step s sum i h) ∙ g .same) }
-
-  pub sum-end : length s ≤ i → sum ≡ sumFrom start s
-  unfolding sumFrom
-  sum-end h = rw (drop-of-length-le s h) at (g .same)
+  pub stretch-end : length s ≤ i → record { plain = plain; sum = sum } ≡ stretched start s
+  unfolding sumFrom all
+  stretch-end h =
+      let p : plain ≡ all isPlain s = sym (and-some plain refl) ∙ rw (drop-of-length-le s h) at (g .tested) in
+      let q : sum ≡ sumFrom start s = rw (drop-of-length-le s h) at (g .same) in
+      λ k. record { plain = p k; sum = q k }
 
 pub sum-append : (a : ℕ) (l m : List ℕ) → sumFrom a (l ++ m) ≡ sumFrom (sumFrom a l) m
 unfolding sumFrom
@@ -37,8 +45,16 @@ sum-append a [] m = refl
 sum-append a (x ∷ l) m = sum-append ((a + x) % 65536) l m
 
 -- STX and the command, then the data, then ETX
-pub sum-block : (c : ℕ) (d : List ℕ) (x y z head all r : ℕ) → x ≡ STX → y ≡ c → head ≡ (x + y) % 65536 → all ≡ sumFrom head d → z ≡ ETX → r ≡ (all + z) % 65536 → r ≡ checksum c d
-unfolding checksum summed sumFrom
-sum-block c d x y z head all r a b h e f g = rw (g, f, e, h, a, b) (sym (sum-append ((2 + c) % 65536) d (3 ∷ [])))
+pub sum-block : (c : ℕ) (d : List ℕ) (o all r : ℕ) → o ≡ opening c → all ≡ sumFrom o d → r ≡ (all + ETX) % 65536 → r ≡ checksum c d
+unfolding checksum summed sumFrom opening
+sum-block c d o all r h e g = rw (g, e, h) (sym (sum-append ((2 + c) % 65536) d (3 ∷ [])))
 
-pub ruleset summing = (sum-start, sum-next, sum-end, sum-block, needs)
+pub sum-stretch : (c : ℕ) (d : List ℕ) (o : ℕ) → o ≡ opening c → (t : Stretch) → t ≡ stretched o d → (r : ℕ) → r ≡ (t .sum + ETX) % 65536 → r ≡ checksum c d
+sum-stretch c d o h t e r g = sum-block c d o (t .sum) r h (ap (λ x. x .sum) e) g
+
+-- a sum that begins with them
+pub opening-sum : (c x y : ℕ) → x ≡ (0 + STX) % 65536 → y ≡ (x + c) % 65536 → y ≡ opening c
+unfolding opening sumFrom
+opening-sum c x y h e = rw (e, h)
+
+pub ruleset summing = (stretch-start, stretch-next, stretch-end, sum-stretch, opening-sum, needs)

@@ -1,6 +1,8 @@
 // The block that stands at a place of a frame.
 use crate::BlockStep;
-use crate::sum::checksum;
+use crate::sum::added;
+use crate::sum::opening;
+use crate::walk::walk;
 use octets::bytes::EOT;
 use octets::bytes::ETX;
 use octets::bytes::PLAIN;
@@ -8,13 +10,13 @@ use octets::bytes::STX;
 use octets::hex::Four;
 use octets::hex::four_at;
 use octets::slices::byte_at;
-use octets::slices::plain_run;
 ghost use mathlib.Core.Path.{_≡_};
 ghost use mathlib.Core.Bool.{_||_};
 ghost use Prim.Native.Nat.{_+_, _≤_};
 ghost use lib.ListN.{drop};
 ghost use Rattle.octets.specs.Choice.{_is_};
 ghost use Rattle.octets.specs.Bytes.{STX, EOT};
+ghost use Rattle.body.specs.Sum.{checksum};
 ghost use Rattle.body.specs.Body.{block, isEnd, follow, afterEtx, afterData};
 ghost use Rattle.body.specs.Steps.{placed, foundAt};
 ghost use Rattle.body.specs.Walking.{part, Inside};
@@ -66,9 +68,10 @@ fn no_sum(b: u8) -> bool
 }
 
 // "After ETX, STX or EOT means no checksum; otherwise four upper-case hex digits, then STX or EOT." The ETX stands at `to`.
-fn after_etx(s: &[u8], at: usize, to: usize, command: u8) -> BlockStep
+fn after_etx(s: &[u8], at: usize, to: usize, command: u8, sum: u16) -> BlockStep
     requires { ⌜ Inside (now s) at (to + 1) ⌝ }
     requires { ⌜ at + 2 ≤ to ⌝ }
+    requires { ⌜ sum ≡ checksum command (part (at + 2) to (now s)) ⌝ }
     ensures { λ r. ⌜ r ≡ placed (now (s .entry)) at (afterEtx command (part (at + 2) to (now (s .entry))) (drop (to + 1) (now (s .entry)))) ⌝ }
 {
     if no_sum(byte_at(s, to + 1)) {
@@ -76,21 +79,18 @@ fn after_etx(s: &[u8], at: usize, to: usize, command: u8) -> BlockStep
     }
     match four_at(s, to + 1) {
         Four::Bad => BlockStep::Stray,
-        Four::Value(v) => {
-            let from = at + 2;
-            let sum = checksum(command, &s[from..to]);
-            follow(s, at, to, command, v == sum, to + 5)
-        }
+        Four::Value(v) => follow(s, at, to, command, v == sum, to + 5),
     }
 }
 
-// "ETX ends a block; only the last may end at EOT without it."
-fn after_data(s: &[u8], at: usize, to: usize, command: u8) -> BlockStep
+// "ETX ends a block; only the last may end at EOT without it." The sum is needed only where ETX and digits follow.
+fn after_data(s: &[u8], at: usize, to: usize, command: u8, sum: u16) -> BlockStep
     requires { ⌜ Inside (now s) at to ⌝ }
+    requires { ⌜ sum ≡ checksum command (part (at + 2) to (now s)) ⌝ }
     ensures { λ r. ⌜ r ≡ placed (now (s .entry)) at (afterData command (part (at + 2) to (now (s .entry))) (drop to (now (s .entry)))) ⌝ }
 {
     if byte_at(s, to) == ETX {
-        return after_etx(s, at, to, command);
+        return after_etx(s, at, to, command, sum);
     }
     if is_end(s, to) {
         return BlockStep::Last {
@@ -114,6 +114,6 @@ pub fn block_at(s: &[u8], at: usize) -> BlockStep
     if command < PLAIN {
         return BlockStep::Stray;
     }
-    let to = plain_run(s, at + 2);
-    after_data(s, at, to, command)
+    let text = walk(s, at + 2, opening(command));
+    after_data(s, at, text.to, command, added(text.sum, ETX))
 }

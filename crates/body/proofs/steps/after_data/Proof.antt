@@ -14,8 +14,8 @@ returns c = search behindData
 is-end-requires : tie.Need-is-end-requires
 is-end-requires c κs = search behindData
 
-add-t8 : tie.Need-add-t8
-add-t8 c = search behindData
+add-t9 : tie.Need-add-t9
+add-t9 c = search behindData
 
 returns-2 : tie.Need-returns-2
 returns-2 c = search behindData
@@ -31,6 +31,6 @@ after-data-spec =
     after-etx-requires
     returns
     is-end-requires
-    add-t8
+    add-t9
     returns-2
     returns-3)

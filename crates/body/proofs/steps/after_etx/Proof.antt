@@ -32,21 +32,6 @@ enum-told c = search behindEtx
 enum-known-v : tie.Need-enum-known-v
 enum-known-v c = search behindEtx
 
-add-from : tie.Need-add-from
-add-from c = search behindEtx
-
-sub-checksum : tie.Need-sub-checksum
-sub-checksum c = search behindEtx
-
-part-checksum-start : tie.Need-part-checksum-start
-part-checksum-start c = search behindEtx
-
-part-checksum-end : tie.Need-part-checksum-end
-part-checksum-end c = search behindEtx
-
-checksum-requires : tie.Need-checksum-requires
-checksum-requires c κs = search behindEtx
-
 add-follow-2 : tie.Need-add-follow-2
 add-follow-2 c = search behindEtx
 
@@ -73,11 +58,6 @@ after-etx-spec =
     four-at-requires
     enum-told
     enum-known-v
-    add-from
-    sub-checksum
-    part-checksum-start
-    part-checksum-end
-    checksum-requires
     add-follow-2
     follow-requires-2
     returns-2

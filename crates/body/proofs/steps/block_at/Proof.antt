@@ -17,11 +17,17 @@ byte-at-requires-2 c κs = search finding
 returns-2 : tie.Need-returns-2
 returns-2 c = search finding
 
-add-plain-run : tie.Need-add-plain-run
-add-plain-run c = search finding
+add-walk : tie.Need-add-walk
+add-walk c = search finding
 
-plain-run-requires : tie.Need-plain-run-requires
-plain-run-requires c κs = search finding
+opening-requires : tie.Need-opening-requires
+opening-requires c κs = search finding
+
+walk-requires : tie.Need-walk-requires
+walk-requires c κs = search finding
+
+added-requires : tie.Need-added-requires
+added-requires c κs = search finding
 
 after-data-requires : tie.Need-after-data-requires
 after-data-requires c κs = search finding
@@ -38,7 +44,9 @@ block-at-spec =
     add-byte-at
     byte-at-requires-2
     returns-2
-    add-plain-run
-    plain-run-requires
+    add-walk
+    opening-requires
+    walk-requires
+    added-requires
     after-data-requires
     returns-3)

@@ -1,0 +1,189 @@
+/* How often each call looks at a byte of a block's data, counted as it runs: the figures of docs/DECISIONS.md, "Cost", stand in main().
+ * It is linked with the library of tools/counted, which calls one of the functions __sanitizer_cov_load.. before each load.
+ * A walk over a block's data looks at each byte once, and once more at those behind the last whole stride. */
+#include "expect.h"
+
+#include <pagozkin.h>
+#include <string.h>
+
+enum { BLOCKS = 30, TEXT = 120, STRIDE = 16, MEMORY = 32768 };
+
+static uint8_t memory[MEMORY];
+static uint8_t reply[MEMORY + PAGOZKIN_REPLY_ROOM];
+static uint8_t room[PAGOZKIN_ROOM];
+static uint8_t out[PAGOZKIN_MOST_RESULT];
+
+/* The bytes that are watched, and how often each one was looked at. */
+static const uint8_t *watched;
+static size_t looks[PAGOZKIN_MOST_PRINTABLE];
+
+static void watch(const uint8_t *bytes)
+{
+    watched = bytes;
+    memset(looks, 0, sizeof looks);
+}
+
+static void look(const uint8_t *at, size_t width)
+{
+    size_t first = (size_t)at - (size_t)watched;
+    for (size_t i = 0; i < width; i++)
+        if (first + i < PAGOZKIN_MOST_PRINTABLE)
+            looks[first + i]++;
+}
+
+void __sanitizer_cov_load1(const uint8_t *at)
+{
+    look(at, 1);
+}
+
+void __sanitizer_cov_load2(const uint8_t *at)
+{
+    look(at, 2);
+}
+
+void __sanitizer_cov_load4(const uint8_t *at)
+{
+    look(at, 4);
+}
+
+void __sanitizer_cov_load8(const uint8_t *at)
+{
+    look(at, 8);
+}
+
+void __sanitizer_cov_load16(const uint8_t *at)
+{
+    look(at, 16);
+}
+
+/* A frame of writes to the TEXT file "A". Behind the label each has a message of TEXT bytes, which starts at these places. */
+typedef struct frame {
+    uint8_t bytes[PAGOZKIN_MOST_TRANSLATED];
+    size_t length;
+    size_t messages[BLOCKS];
+} frame;
+
+static frame plain;
+static frame summed;
+
+static void put(frame *f, const char *bytes, size_t n)
+{
+    memcpy(f->bytes + f->length, bytes, n);
+    f->length += n;
+}
+
+static void put_sum(frame *f, size_t from)
+{
+    static const char digits[] = "0123456789ABCDEF";
+    unsigned sum = 0;
+    for (size_t i = from; i < f->length; i++)
+        sum += f->bytes[i];
+    for (int shift = 12; shift >= 0; shift -= 4)
+        put(f, &digits[sum >> shift & 15], 1);
+}
+
+/* In form 1, or in form 2, which has sums. */
+static void build(frame *f, unsigned form)
+{
+    put(f, "\0\0\0\0\0\001Z00", 9);
+    for (size_t i = 0; i < BLOCKS; i++) {
+        size_t stx = f->length;
+        put(f, "\002AA", 3);
+        f->messages[i] = f->length;
+        for (size_t k = 0; k < TEXT; k++)
+            put(f, &"NOTICE "[k % 7], 1);
+        put(f, "\003", 1);
+        if (form == 2)
+            put_sum(f, stx);
+    }
+    put(f, "\004", 1);
+}
+
+/* Every byte of every message was looked at in so many walks, and so often besides. The label before a message is data too. */
+static void each(const char *call, const frame *f, size_t walks, size_t besides)
+{
+    for (size_t i = 0; i < BLOCKS; i++)
+        for (size_t k = 0; k < TEXT; k++) {
+            size_t last = (k + 1) / STRIDE == (TEXT + 1) / STRIDE;
+            size_t expected = walks * (1 + last) + besides;
+            size_t seen = looks[f->messages[i] + k];
+            if (seen != expected) {
+                printf("%s, %s: byte %zu of message %zu is looked at %zu times and not %zu\n", call, f == &plain ? "plain" : "summed", k,
+                       i + 1, seen, expected);
+                faults++;
+                return;
+            }
+        }
+}
+
+static void read_and_step(const frame *f)
+{
+    watch(f->bytes);
+    pagozkin_places places = pagozkin_read(f->bytes, f->length, room);
+    IS(places.number, PAGOZKIN_DONE);
+    each("read", f, 1, 0);
+    watch(f->bytes);
+    size_t blocks = 0;
+    for (size_t at = places.body; at < f->length; blocks++)
+        at = pagozkin_step(f->bytes, f->length, at).next;
+    IS(blocks, BLOCKS);
+    each("the steps", f, 1, 0);
+}
+
+/* Judged, run, and once by the command itself. */
+static void run(const frame *f)
+{
+    pagozkin_settings s = pagozkin_fresh('C', memory, MEMORY).settings;
+    s = pagozkin_run(s, memory, MEMORY, reply, sizeof reply, BYTES("\0\0\0\0\0\001Z00\002E$AAL0400FF00\004")).settings;
+    watch(f->bytes);
+    IS(pagozkin_run(s, memory, MEMORY, reply, sizeof reply, f->bytes, f->length).tally.done, BLOCKS);
+    each("run", f, 2, 1);
+}
+
+/* Tested, and put three times: two lengths and the result. */
+static void write(uint8_t form, size_t besides)
+{
+    const uint8_t *text = plain.bytes + plain.messages[0];
+    watch(text);
+    IS(pagozkin_write(form, BYTES("Z00"), 'A', text, TEXT, out, sizeof out).number, PAGOZKIN_DONE);
+    for (size_t k = 0; k < TEXT; k++)
+        is("looks of write", looks[k], besides);
+}
+
+static void reform(const frame *f, uint8_t form, size_t besides)
+{
+    watch(f->bytes);
+    IS(pagozkin_reform(form, f->bytes, f->length, out, sizeof out).number, PAGOZKIN_DONE);
+    each("reform", f, 6, besides);
+}
+
+static void join(const frame *first, const frame *second, uint8_t form, size_t besides)
+{
+    watch(first->bytes);
+    IS(pagozkin_join(form, first->bytes, first->length, second->bytes, second->length, out, sizeof out).number, PAGOZKIN_DONE);
+    each("join, first", first, 7, besides);
+    watch(second->bytes);
+    IS(pagozkin_join(form, first->bytes, first->length, second->bytes, second->length, out, sizeof out).number, PAGOZKIN_DONE);
+    each("join, second", second, 6, besides);
+}
+
+int main(void)
+{
+    build(&plain, 1);
+    build(&summed, 2);
+    read_and_step(&plain);
+    read_and_step(&summed);
+    run(&plain);
+    run(&summed);
+    for (uint8_t form = 1; form <= 3; form++) {
+        size_t put = form == 1 ? 3 : 6; /* put three times, and as often summed in forms 2 and 3 */
+        write(form, 1 + put);
+        reform(&plain, form, put);
+        reform(&summed, form, put);
+        join(&plain, &summed, form, put);
+        join(&summed, &plain, form, put);
+    }
+    if (faults == 0)
+        printf("looks: each call looks at a block's data as often as docs/DECISIONS.md says\n");
+    return faults != 0;
+}
