@@ -1,12 +1,11 @@
 /* How often each call looks at a byte of a block's data, counted as it runs: the figures of docs/DECISIONS.md, "Cost", stand in main().
- * It is linked with the library of tools/counted, which calls one of the functions __sanitizer_cov_load.. before each load.
- * A walk over a block's data looks at each byte once, and once more at those behind the last whole stride. */
+ * It is linked with the library of tools/counted, which calls one of the functions __sanitizer_cov_load.. before each load. */
 #include "expect.h"
 
 #include <pagozkin.h>
 #include <string.h>
 
-enum { BLOCKS = 30, TEXT = 120, STRIDE = 16, MEMORY = 32768 };
+enum { BLOCKS = 30, STRIDE = 16, MEMORY = 32768 };
 
 static uint8_t memory[MEMORY];
 static uint8_t reply[MEMORY + PAGOZKIN_REPLY_ROOM];
@@ -56,11 +55,14 @@ void __sanitizer_cov_load16(const uint8_t *at)
     look(at, 16);
 }
 
-/* A frame of writes to the TEXT file "A". Behind the label each has a message of TEXT bytes, which starts at these places. */
+/* A frame of writes to the TEXT file "A": of each block where its data start, which are the label and a message, and where they end.
+ * And how often a walk over all blocks looks at each byte. */
 typedef struct frame {
     uint8_t bytes[PAGOZKIN_MOST_TRANSLATED];
     size_t length;
-    size_t messages[BLOCKS];
+    size_t from[BLOCKS];
+    size_t to[BLOCKS];
+    size_t walk[PAGOZKIN_MOST_TRANSLATED];
 } frame;
 
 static frame plain;
@@ -82,38 +84,55 @@ static void put_sum(frame *f, size_t from)
         put(f, &digits[sum >> shift & 15], 1);
 }
 
-/* In form 1, or in form 2, which has sums. */
+/* A walk: sixteen bytes at a time up to those in which the data end, if the frame has sixteen there, and from these on byte by byte up to
+ * the byte that ends the data. So it looks at 17 bytes more than there are data, or at one more. */
+static void count_walk(frame *f)
+{
+    for (size_t i = 0; i < BLOCKS; i++) {
+        size_t at = f->from[i];
+        while (f->length - at >= STRIDE) {
+            for (size_t k = 0; k < STRIDE; k++)
+                f->walk[at + k]++;
+            if (f->to[i] - at < STRIDE)
+                break;
+            at += STRIDE;
+        }
+        for (; at <= f->to[i]; at++)
+            f->walk[at]++;
+    }
+}
+
+/* In form 1, or in form 2, which has sums. The first message is empty, each other four bytes longer than the one before. */
 static void build(frame *f, unsigned form)
 {
     put(f, "\0\0\0\0\0\001Z00", 9);
     for (size_t i = 0; i < BLOCKS; i++) {
         size_t stx = f->length;
-        put(f, "\002AA", 3);
-        f->messages[i] = f->length;
-        for (size_t k = 0; k < TEXT; k++)
+        put(f, "\002A", 2);
+        f->from[i] = f->length;
+        put(f, "A", 1);
+        for (size_t k = 0; k < 4 * i; k++)
             put(f, &"NOTICE "[k % 7], 1);
+        f->to[i] = f->length;
         put(f, "\003", 1);
         if (form == 2)
             put_sum(f, stx);
     }
     put(f, "\004", 1);
+    count_walk(f);
 }
 
-/* Every byte of every message was looked at in so many walks, and so often besides. The label before a message is data too. */
+/* Every byte of every message was looked at in so many walks, and so often besides. */
 static void each(const char *call, const frame *f, size_t walks, size_t besides)
 {
     for (size_t i = 0; i < BLOCKS; i++)
-        for (size_t k = 0; k < TEXT; k++) {
-            size_t last = (k + 1) / STRIDE == (TEXT + 1) / STRIDE;
-            size_t expected = walks * (1 + last) + besides;
-            size_t seen = looks[f->messages[i] + k];
-            if (seen != expected) {
-                printf("%s, %s: byte %zu of message %zu is looked at %zu times and not %zu\n", call, f == &plain ? "plain" : "summed", k,
-                       i + 1, seen, expected);
+        for (size_t at = f->from[i] + 1; at < f->to[i]; at++)
+            if (looks[at] != walks * f->walk[at] + besides) {
+                printf("%s, %s: byte %zu is looked at %zu times and not %zu\n", call, f == &plain ? "plain" : "summed", at, looks[at],
+                       walks * f->walk[at] + besides);
                 faults++;
                 return;
             }
-        }
 }
 
 static void read_and_step(const frame *f)
@@ -143,10 +162,11 @@ static void run(const frame *f)
 /* Tested, and put three times: two lengths and the result. */
 static void write(uint8_t form, size_t besides)
 {
-    const uint8_t *text = plain.bytes + plain.messages[0];
+    const uint8_t *text = plain.bytes + plain.from[BLOCKS - 1];
+    size_t length = plain.to[BLOCKS - 1] - plain.from[BLOCKS - 1];
     watch(text);
-    IS(pagozkin_write(form, BYTES("Z00"), 'A', text, TEXT, out, sizeof out).number, PAGOZKIN_DONE);
-    for (size_t k = 0; k < TEXT; k++)
+    IS(pagozkin_write(form, BYTES("Z00"), 'A', text, length, out, sizeof out).number, PAGOZKIN_DONE);
+    for (size_t k = 0; k < length; k++)
         is("looks of write", looks[k], besides);
 }
 

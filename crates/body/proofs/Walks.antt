@@ -2,7 +2,7 @@
 use mathlib.Core.Path.{_≡_, refl, sym, ap, _∙_}
 use mathlib.Core.Bool.{Bool, true, false, not}
 use mathlib.Core.List.{List, [], _∷_, _++_}
-use Prim.Native.Nat.{ℕ, zero, suc, _+_, _-_, _%_, _<_, _≤_, _^_}
+use Prim.Native.Nat.{ℕ, zero, suc, _+_, _-_, _/_, _%_, _<_, _≤_, _^_}
 use mir.Syntax.{w64}
 use mir.Val.{Fits}
 use native.Mathlib.Omega.{arith}
@@ -71,7 +71,7 @@ module _ {s : List ℕ} {from start to sum : ℕ} (g : Walks s from start to sum
   pub walk-out : length s ≤ to → record { to = to; sum = sum } ≡ walked from start (left s from)
   walk-out h = walk-done (left-out s to h)
 
--- a round looks at one byte of the data, and one less is left
+-- a round takes one byte of the data: there are as many rounds as bytes
 pub walk-less : (s : List ℕ) (to : ℕ) → to < length s → 5 ≤ s ! to → length (left s (to + 1)) < length (left s to)
 walk-less s to h k = omega (arith, ap length (left-on s to h k))
 
@@ -92,7 +92,7 @@ module _ (p : ℕ → Bool) where
   front-few (suc n) [] a = never a
   front-few (suc n) (x ∷ l) a = by-test (p x) (λ e. let z = front-few n l (rw e at a) in rw e (omega (arith, z))) (λ e. rw e (omega arith))
 
--- sixteen bytes from a place on, as a part
+-- sixteen bytes from a place on
 pub stride-fits : (s : List ℕ) (at : ℕ) → length s < 2 ^ 64 → STRIDE ≤ length s - at → Fits w64 (at + STRIDE)
 stride-fits s at l h = record { fits = omega arith }
 
@@ -125,18 +125,22 @@ module _ {s : List ℕ} {from start to sum : ℕ} (g : Walks s from start to sum
       same = rw (ap (λ x. x .sum) e) (sym (sum-append sum (take STRIDE (drop to s)) (left s (to + STRIDE))) ∙ ap (sumFrom sum) (sym (taken k)) ∙ g .same);
     }
 
-    -- a round looks at sixteen bytes of the data, and so many less are left
-    pub stride-less : not (t .plain) ≡ false → length (left s (to + STRIDE)) < length (left s to)
+    -- a round takes sixteen bytes of the data: there are as many rounds as whole sixteens
+    pub stride-less : not (t .plain) ≡ false → length (left s (to + STRIDE)) / STRIDE < length (left s to) / STRIDE
     stride-less k = omega (arith, shorter k)
 
-pub near-within : (s : List ℕ) (from start : ℕ) (w : Walked) → Near s from start w → w .to ≤ length s
-near-within s from start w g = g .walks .within
+module _ (s : List ℕ) (from start : ℕ) (w : Walked) (g : Near s from start w) where
+  pub near-within : w .to ≤ length s
+  near-within = g .walks .within
 
-pub near-rest : (s : List ℕ) (from start : ℕ) (w : Walked) → Near s from start w → (x : Walked) → x ≡ walked (w .to) (w .sum) (left s (w .to)) → x ≡ walked from start (left s from)
-near-rest s from start w g x e = walk-rest (g .walks) x e
+  pub near-few : length (left s (w .to)) < STRIDE
+  near-few = g .few
+
+  pub near-rest : (x : Walked) → x ≡ walked (w .to) (w .sum) (left s (w .to)) → x ≡ walked from start (left s from)
+  near-rest x e = walk-rest (g .walks) x e
 
 pub ruleset walking = (walk-start, walk-next, walk-stop, walk-out, walk-less, needs)
 
 pub ruleset striding = (stride-fits, stride-part, walk-start, stride-out, stride-stop, stride-next, stride-less, needs)
 
-pub ruleset nearing = (near-within, near-rest, needs)
+pub ruleset nearing = (near-within, near-few, near-rest, needs)

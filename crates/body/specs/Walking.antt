@@ -19,15 +19,15 @@ opening c = sumFrom 0 (STX ∷ c ∷ [])
 abbrev pub stretched : ℕ → List ℕ → Stretch
 stretched start l = record { plain = all isPlain l; sum = sumFrom start l }
 
+-- the data of s that are left at a place: "bytes 05H to FFH"
+abbrev pub left : List ℕ → ℕ → List ℕ
+left s to = front isPlain (drop to s)
+
 -- data that start at a place, walked: where they end, and a sum with each of their bytes added to it
 abbrev pub walked : ℕ → ℕ → List ℕ → Walked
 walked from start d = record { to = from + length d; sum = sumFrom start d }
 
--- the data of s that are left at a place
-abbrev pub left : List ℕ → ℕ → List ℕ
-left s to = front isPlain (drop to s)
-
--- walked as far as a place: who goes on from there, with that sum, ends where the data end, and with their sum
+-- walked as far as place to: who goes on from there, with that sum, ends where the data end, and with their sum
 pub record Walks (s : List ℕ) (from start to sum : ℕ) : Type 0 where
   pub within : to ≤ length s
   pub ends : to + length (left s to) ≡ from + length (left s from)
@@ -37,7 +37,7 @@ pub record Walks (s : List ℕ) (from start to sum : ℕ) : Type 0 where
 abbrev pub STRIDE : ℕ
 STRIDE = 16
 
--- walked so far that fewer bytes of the data are left
+-- walked so far that fewer bytes than that are left
 pub record Near (s : List ℕ) (from start : ℕ) (w : Walked) : Type 0 where
   pub walks : Walks s from start (w .to) (w .sum)
   pub few : length (left s (w .to)) < STRIDE

@@ -1,15 +1,14 @@
 // A block's data, walked once: "The smallest boards read each block once for its end and again for its sum. Do both in one pass."
-// The walk takes sixteen bytes at a time, and the fewer than sixteen that are left one by one: these are looked at twice, all others once.
+// Sixteen bytes are taken at a time as long as all of them are data, and the fewer than sixteen that are left one by one. So a walk looks at
+// each byte of the data once, and once more at the sixteen bytes in which they end; the last look is at the byte that ends them.
 use crate::sum::Stretch;
 use crate::sum::add_up;
 use crate::sum::added;
 use octets::bytes::PLAIN;
 ghost use mathlib.Core.Path.{_≡_};
-ghost use Prim.Native.Nat.{_-_, _≤_};
+ghost use Prim.Native.Nat.{_-_, _<_, _≤_};
 ghost use lib.ListN.{length, take, drop};
-ghost use Rattle.octets.specs.Choice.{front};
-ghost use Rattle.octets.specs.Bytes.{isPlain};
-ghost use Rattle.body.specs.Walking.{STRIDE, stretched, walked, Near};
+ghost use Rattle.body.specs.Walking.{STRIDE, stretched, walked, left, Near};
 
 // How many bytes are taken at a time.
 const STRIDE: usize = 16;
@@ -20,7 +19,7 @@ pub struct Walked {
     pub sum: u16,
 }
 
-// Sixteen bytes from a place on.
+// Sixteen bytes from a place on, tested and added up at once.
 fn stride(s: &[u8], at: usize, start: u16) -> Stretch
     requires { ⌜ STRIDE ≤ length (now s) - at ⌝ }
     ensures { λ r. ⌜ r ≡ stretched start (take STRIDE (drop at (now (s .entry)))) ⌝ }
@@ -28,7 +27,7 @@ fn stride(s: &[u8], at: usize, start: u16) -> Stretch
     add_up(&s[at..at + STRIDE], start)
 }
 
-// The data as far as sixteen of them stand in a row. A stride in which they end is thrown away, its sum too.
+// The data as far as they go by sixteens. The sixteen bytes in which they end are left, and what these added is thrown away.
 fn by_strides(s: &[u8], from: usize, start: u16) -> Walked
     requires { ⌜ from ≤ length (now s) ⌝ }
     ensures { λ r. ⌜ Near (now (s .entry)) from start r ⌝ }
@@ -46,10 +45,11 @@ fn by_strides(s: &[u8], from: usize, start: u16) -> Walked
     Walked { to, sum }
 }
 
-// The data byte by byte.
+// The data that are left, byte by byte: fewer than sixteen, so this loop goes round no more often.
 fn by_bytes(s: &[u8], from: usize, start: u16) -> Walked
     requires { ⌜ from ≤ length (now s) ⌝ }
-    ensures { λ r. ⌜ r ≡ walked from start (front isPlain (drop from (now (s .entry)))) ⌝ }
+    requires { ⌜ length (left (now s) from) < STRIDE ⌝ }
+    ensures { λ r. ⌜ r ≡ walked from start (left (now (s .entry)) from) ⌝ }
 {
     let mut to = from;
     let mut sum = start;
@@ -64,11 +64,11 @@ fn by_bytes(s: &[u8], from: usize, start: u16) -> Walked
     Walked { to, sum }
 }
 
-// The bytes 05H to FFH from a place on: where they end, and a sum with each of them added to it. A block without a checksum is summed so
-// too: that it has none stands behind its end.
+// The bytes 05H to FFH from a place on: where they end, and a sum with each of them added to it. A block that has no checksum is added up
+// too, for nothing: that it has none is seen behind its end.
 pub fn walk(s: &[u8], from: usize, start: u16) -> Walked
     requires { ⌜ from ≤ length (now s) ⌝ }
-    ensures { λ r. ⌜ r ≡ walked from start (front isPlain (drop from (now (s .entry)))) ⌝ }
+    ensures { λ r. ⌜ r ≡ walked from start (left (now (s .entry)) from) ⌝ }
 {
     let near = by_strides(s, from, start);
     by_bytes(s, near.to, near.sum)

@@ -1,5 +1,6 @@
+use Prim.Native.Nat.{_/_}
 use lib.ListN.{length}
-use Rattle.body.specs.Walking.{left, Walks}
+use Rattle.body.specs.Walking.{STRIDE, left, Walks}
 use Rattle.body.proofs.Walks.{striding}
 use Rattle.body.proofs.walk.by_strides.Statement.{statement}
 use Rattle.body.proofs.walk.by_strides.Tie as tie
@@ -8,7 +9,7 @@ abbrev Inv-loop : tie.InvT-loop
 Inv-loop s from start to₀ sum₀ to sum = Walks s from start to sum
 
 abbrev μ-loop : tie.MeasureT-loop
-μ-loop s from start to₀ sum₀ to sum = length (left s to)
+μ-loop s from start to₀ sum₀ to sum = length (left s to) / STRIDE
 
 loop-holds : tie.Need-loop-holds Inv-loop μ-loop
 loop-holds c = search striding

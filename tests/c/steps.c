@@ -1,0 +1,168 @@
+/* pagozkin_step beside a plain reading of one block, byte by byte: data of 0 to 100 bytes, so of up to six whole strides and every rest,
+ * with each control byte at each place, good and bad ends, right and wrong sums, and long ones whose sum is carried out of 16 bits. The
+ * compiler makes wide instructions of the library's steps, and no proof covers the compiler. */
+#include "expect.h"
+
+#include <pagozkin.h>
+#include <string.h>
+
+enum { STX = 2, ETX = 3, EOT = 4, PLAIN = 5, LONGEST = 100, CARRYING = 600 };
+
+static uint8_t bytes[CARRYING + 64];
+static size_t length;
+static size_t tried;
+
+static unsigned byte_at(size_t i)
+{
+    return i < length ? bytes[i] : 0;
+}
+
+static int digit(unsigned c)
+{
+    return c >= '0' && c <= '9' ? (int)c - '0' : c >= 'A' && c <= 'F' ? (int)c - 'A' + 10 : -1;
+}
+
+/* "then STX or EOT": what stands behind a block. */
+static pagozkin_block_places follow(pagozkin_block_places b, size_t next)
+{
+    static const pagozkin_block_places none;
+    pagozkin_block_places stray = none;
+    stray.next = length;
+    if (byte_at(next) == STX) {
+        b.kind = PAGOZKIN_MORE;
+        b.next = next;
+        return b;
+    }
+    if (byte_at(next) != EOT || next + 1 != length)
+        return stray;
+    b.kind = PAGOZKIN_LAST;
+    b.next = length;
+    return b;
+}
+
+static pagozkin_block_places plain_step(void)
+{
+    pagozkin_block_places b = {PAGOZKIN_NO_BLOCK, 0, 0, 0, 0, 0};
+    b.next = length;
+    if (byte_at(0) != STX || byte_at(1) < PLAIN)
+        return b;
+    size_t to = 2;
+    unsigned sum = STX + byte_at(1) + ETX;
+    for (; byte_at(to) >= PLAIN; to++)
+        sum += byte_at(to);
+    pagozkin_block_places found = {PAGOZKIN_NO_BLOCK, (uint8_t)byte_at(1), 1, 2, to, 0};
+    if (byte_at(to) != ETX)
+        return byte_at(to) == EOT ? follow(found, to) : b;
+    if (byte_at(to + 1) == STX || byte_at(to + 1) == EOT)
+        return follow(found, to + 1);
+    unsigned carried = 0;
+    for (size_t i = 1; i <= 4; i++) {
+        int d = digit(byte_at(to + i));
+        if (d < 0)
+            return b;
+        carried = carried * 16 + (unsigned)d;
+    }
+    found.right = carried == (sum & 0xFFFF);
+    return follow(found, to + 5);
+}
+
+static void compare(void)
+{
+    pagozkin_block_places ours = pagozkin_step(bytes, length, 0);
+    pagozkin_block_places theirs = plain_step();
+    IS(ours.kind, theirs.kind);
+    IS(ours.command, theirs.command);
+    IS(ours.right, theirs.right);
+    IS(ours.from, theirs.from);
+    IS(ours.to, theirs.to);
+    IS(ours.next, theirs.next);
+    tried++;
+}
+
+static void put(const char *text, size_t n)
+{
+    memcpy(bytes + length, text, n);
+    length += n;
+}
+
+/* STX, a command byte and n bytes of data, which differ from one block to the next. */
+static void begin(size_t n, unsigned command)
+{
+    length = 0;
+    put("\002", 1);
+    bytes[length++] = (uint8_t)command;
+    for (size_t i = 0; i < n; i++)
+        bytes[length++] = (uint8_t)(PLAIN + (i * 37 + n * 11 + command) % (256 - PLAIN));
+}
+
+/* The data, with their checksum and `off` more, ended by ETX. */
+static void end_with_sum(unsigned off)
+{
+    static const char digits[] = "0123456789ABCDEF";
+    put("\003", 1);
+    unsigned sum = off;
+    for (size_t i = 0; i < length; i++)
+        sum += bytes[i];
+    for (int shift = 12; shift >= 0; shift -= 4)
+        put(&digits[sum >> shift & 15], 1);
+}
+
+/* Good ends, then bad ones. */
+static const char *const ends[] = {
+    "\004", "\003\004", "\003\002", "\003\002AB\003\002CDEFGHIJKLMNOPQ\003\004", "\003", "\003\001", "", "\001", "\003X",
+};
+
+static void blocks(size_t n)
+{
+    for (size_t e = 0; e < sizeof ends / sizeof ends[0]; e++) {
+        begin(n, 'A');
+        put(ends[e], strlen(ends[e]));
+        compare();
+        for (unsigned control = 0; control < PLAIN; control++)
+            for (size_t at = 0; at < n; at++) {
+                uint8_t kept = bytes[2 + at];
+                bytes[2 + at] = (uint8_t)control;
+                compare();
+                bytes[2 + at] = kept;
+            }
+    }
+    for (unsigned command = PLAIN - 1; command < 256; command += 25)
+        for (unsigned off = 0; off < 4; off++) {
+            static const unsigned by[] = {0, 1, 0xFFFF, 0x100};
+            begin(n, command);
+            end_with_sum(by[off]);
+            put("\004", 1);
+            compare();
+            bytes[length - 1] = STX;
+            compare();
+        }
+    /* a byte of the data is another than the sum has it */
+    for (size_t at = 0; at < n; at++) {
+        begin(n, 'G');
+        end_with_sum(0);
+        put("\004", 1);
+        bytes[2 + at] ^= 0x20;
+        compare();
+    }
+}
+
+/* Bytes FFH, whose sums go over 65,535. */
+static void carries(size_t n)
+{
+    begin(n, 'A');
+    memset(bytes + 2, 0xFF, n);
+    end_with_sum(0);
+    put("\004", 1);
+    compare();
+}
+
+int main(void)
+{
+    for (size_t n = 0; n <= LONGEST; n++)
+        blocks(n);
+    for (size_t n = 200; n <= CARRYING; n++)
+        carries(n);
+    if (faults == 0)
+        printf("steps: %zu blocks are taken as a plain reading takes them\n", tried);
+    return faults != 0;
+}
