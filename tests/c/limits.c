@@ -1,5 +1,6 @@
 /* Each limit of pagozkin.h, as the library has it: what it allows is taken, one beyond it is refused. Of the own types each that is
  * listed is taken, and no other. */
+#include "digits.h"
 #include "expect.h"
 
 #include <pagozkin.h>
@@ -11,12 +12,6 @@ static uint8_t room[PAGOZKIN_ROOM];
 static uint8_t text[PAGOZKIN_MOST_TRANSLATED];
 static uint8_t frame[PAGOZKIN_MOST_PRINTABLE + 1];
 static uint8_t out[PAGOZKIN_MOST_RESULT];
-
-static void put_hex(uint8_t *to, size_t n, size_t digits)
-{
-    for (; digits > 0; n /= 16)
-        to[--digits] = (uint8_t)"0123456789ABCDEF"[n % 16];
-}
 
 static uint8_t fresh(uint8_t own, size_t length)
 {

@@ -1,5 +1,6 @@
-/* How often each call looks at a byte of a block's data, counted as it runs: the figures of docs/DECISIONS.md, "Cost", stand in main().
+/* How often each call looks at a byte of a block's data, counted as it runs and held to the table of docs/DECISIONS.md, "Cost".
  * It is linked with the library of tools/counted, which calls one of the functions __sanitizer_cov_load.. before each load. */
+#include "digits.h"
 #include "expect.h"
 
 #include <pagozkin.h>
@@ -12,22 +13,24 @@ static uint8_t reply[MEMORY + PAGOZKIN_REPLY_ROOM];
 static uint8_t room[PAGOZKIN_ROOM];
 static uint8_t out[PAGOZKIN_MOST_RESULT];
 
-/* The bytes that are watched, and how often each one was looked at. */
+/* The bytes that are watched, and how often each one was looked at; the first of them counts as byte `first`. */
 static const uint8_t *watched;
+static size_t first;
 static size_t looks[PAGOZKIN_MOST_PRINTABLE];
 
-static void watch(const uint8_t *bytes)
+static void watch(const uint8_t *bytes, size_t place)
 {
     watched = bytes;
+    first = place;
     memset(looks, 0, sizeof looks);
 }
 
 static void look(const uint8_t *at, size_t width)
 {
-    size_t first = (size_t)at - (size_t)watched;
-    for (size_t i = 0; i < width; i++)
-        if (first + i < PAGOZKIN_MOST_PRINTABLE)
-            looks[first + i]++;
+    size_t place = (size_t)at - (size_t)watched;
+    for (size_t i = first + place; i < first + place + width; i++)
+        if (first <= i && i < PAGOZKIN_MOST_PRINTABLE)
+            looks[i]++;
 }
 
 void __sanitizer_cov_load1(const uint8_t *at)
@@ -74,14 +77,13 @@ static void put(frame *f, const char *bytes, size_t n)
     f->length += n;
 }
 
-static void put_sum(frame *f, size_t from)
+static void put_sum(frame *f, size_t stx)
 {
-    static const char digits[] = "0123456789ABCDEF";
-    unsigned sum = 0;
-    for (size_t i = from; i < f->length; i++)
+    size_t sum = 0;
+    for (size_t i = stx; i < f->length; i++)
         sum += f->bytes[i];
-    for (int shift = 12; shift >= 0; shift -= 4)
-        put(f, &digits[sum >> shift & 15], 1);
+    put_hex(f->bytes + f->length, sum, 4);
+    f->length += 4;
 }
 
 /* A walk: sixteen bytes at a time up to those in which the data end, if the frame has sixteen there, and from these on byte by byte up to
@@ -137,11 +139,11 @@ static void each(const char *call, const frame *f, size_t walks, size_t besides)
 
 static void read_and_step(const frame *f)
 {
-    watch(f->bytes);
+    watch(f->bytes, 0);
     pagozkin_places places = pagozkin_read(f->bytes, f->length, room);
     IS(places.number, PAGOZKIN_DONE);
     each("read", f, 1, 0);
-    watch(f->bytes);
+    watch(f->bytes, 0);
     size_t blocks = 0;
     for (size_t at = places.body; at < f->length; blocks++)
         at = pagozkin_step(f->bytes, f->length, at).next;
@@ -149,12 +151,30 @@ static void read_and_step(const frame *f)
     each("the steps", f, 1, 0);
 }
 
+/* The summed frame in form 3: its characters are tested and counted, then translated, and what they stand for is walked in the room. */
+static void read_printable(void)
+{
+    size_t length = pagozkin_reform(3, summed.bytes, summed.length, out, sizeof out).length;
+    size_t lead = summed.length - pagozkin_read(out, length, room).length;
+    static size_t places[PAGOZKIN_MOST_TRANSLATED];
+    for (size_t at = 0, byte = lead; at < length; at += out[at] == '_' ? 3 : 1)
+        places[byte++] = at;
+    watch(out, 0);
+    IS(pagozkin_read(out, length, room).printable, 1);
+    for (size_t i = 0; i < BLOCKS; i++)
+        for (size_t at = summed.from[i]; at < summed.to[i]; at++)
+            is("looks at a character", looks[places[at]], 2);
+    watch(room, lead);
+    IS(pagozkin_read(out, length, room).number, PAGOZKIN_DONE);
+    each("read, printable", &summed, 1, 0);
+}
+
 /* Judged, run, and once by the command itself. */
 static void run(const frame *f)
 {
     pagozkin_settings s = pagozkin_fresh('C', memory, MEMORY).settings;
     s = pagozkin_run(s, memory, MEMORY, reply, sizeof reply, BYTES("\0\0\0\0\0\001Z00\002E$AAL0400FF00\004")).settings;
-    watch(f->bytes);
+    watch(f->bytes, 0);
     IS(pagozkin_run(s, memory, MEMORY, reply, sizeof reply, f->bytes, f->length).tally.done, BLOCKS);
     each("run", f, 2, 1);
 }
@@ -164,7 +184,7 @@ static void write(uint8_t form, size_t besides)
 {
     const uint8_t *text = plain.bytes + plain.from[BLOCKS - 1];
     size_t length = plain.to[BLOCKS - 1] - plain.from[BLOCKS - 1];
-    watch(text);
+    watch(text, 0);
     IS(pagozkin_write(form, BYTES("Z00"), 'A', text, length, out, sizeof out).number, PAGOZKIN_DONE);
     for (size_t k = 0; k < length; k++)
         is("looks of write", looks[k], besides);
@@ -172,19 +192,19 @@ static void write(uint8_t form, size_t besides)
 
 static void reform(const frame *f, uint8_t form, size_t besides)
 {
-    watch(f->bytes);
+    watch(f->bytes, 0);
     IS(pagozkin_reform(form, f->bytes, f->length, out, sizeof out).number, PAGOZKIN_DONE);
     each("reform", f, 6, besides);
 }
 
-static void join(const frame *first, const frame *second, uint8_t form, size_t besides)
+static void join(const frame *one, const frame *other, uint8_t form, size_t besides)
 {
-    watch(first->bytes);
-    IS(pagozkin_join(form, first->bytes, first->length, second->bytes, second->length, out, sizeof out).number, PAGOZKIN_DONE);
-    each("join, first", first, 7, besides);
-    watch(second->bytes);
-    IS(pagozkin_join(form, first->bytes, first->length, second->bytes, second->length, out, sizeof out).number, PAGOZKIN_DONE);
-    each("join, second", second, 6, besides);
+    watch(one->bytes, 0);
+    IS(pagozkin_join(form, one->bytes, one->length, other->bytes, other->length, out, sizeof out).number, PAGOZKIN_DONE);
+    each("join, the first", one, 7, besides);
+    watch(other->bytes, 0);
+    IS(pagozkin_join(form, one->bytes, one->length, other->bytes, other->length, out, sizeof out).number, PAGOZKIN_DONE);
+    each("join, the second", other, 6, besides);
 }
 
 int main(void)
@@ -193,6 +213,7 @@ int main(void)
     build(&summed, 2);
     read_and_step(&plain);
     read_and_step(&summed);
+    read_printable();
     run(&plain);
     run(&summed);
     for (uint8_t form = 1; form <= 3; form++) {

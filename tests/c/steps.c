@@ -1,6 +1,7 @@
 /* pagozkin_step beside a plain reading of one block, byte by byte: data of 0 to 100 bytes, so of up to six whole strides and every rest,
  * with each control byte at each place, good and bad ends, right and wrong sums, and long ones whose sum is carried out of 16 bits. The
  * compiler makes wide instructions of the library's steps, and no proof covers the compiler. */
+#include "digits.h"
 #include "expect.h"
 
 #include <pagozkin.h>
@@ -22,48 +23,46 @@ static int digit(unsigned c)
     return c >= '0' && c <= '9' ? (int)c - '0' : c >= 'A' && c <= 'F' ? (int)c - 'A' + 10 : -1;
 }
 
-/* "then STX or EOT": what stands behind a block. */
+static pagozkin_block_places no_block(void)
+{
+    pagozkin_block_places b = {PAGOZKIN_NO_BLOCK, 0, 0, 0, 0, 0};
+    b.next = length;
+    return b;
+}
+
+/* "then STX or EOT", EOT "as the very last byte": a block, by what stands behind it. */
 static pagozkin_block_places follow(pagozkin_block_places b, size_t next)
 {
-    static const pagozkin_block_places none;
-    pagozkin_block_places stray = none;
-    stray.next = length;
-    if (byte_at(next) == STX) {
-        b.kind = PAGOZKIN_MORE;
-        b.next = next;
-        return b;
-    }
-    if (byte_at(next) != EOT || next + 1 != length)
-        return stray;
-    b.kind = PAGOZKIN_LAST;
-    b.next = length;
+    int more = byte_at(next) == STX;
+    if (!more && (byte_at(next) != EOT || next + 1 != length))
+        return no_block();
+    b.kind = more ? PAGOZKIN_MORE : PAGOZKIN_LAST;
+    b.next = more ? next : length;
     return b;
 }
 
 static pagozkin_block_places plain_step(void)
 {
-    pagozkin_block_places b = {PAGOZKIN_NO_BLOCK, 0, 0, 0, 0, 0};
-    b.next = length;
     if (byte_at(0) != STX || byte_at(1) < PLAIN)
-        return b;
-    size_t to = 2;
+        return no_block();
+    pagozkin_block_places b = {PAGOZKIN_NO_BLOCK, (uint8_t)byte_at(1), 1, 2, 2, 0};
     unsigned sum = STX + byte_at(1) + ETX;
-    for (; byte_at(to) >= PLAIN; to++)
-        sum += byte_at(to);
-    pagozkin_block_places found = {PAGOZKIN_NO_BLOCK, (uint8_t)byte_at(1), 1, 2, to, 0};
-    if (byte_at(to) != ETX)
-        return byte_at(to) == EOT ? follow(found, to) : b;
-    if (byte_at(to + 1) == STX || byte_at(to + 1) == EOT)
-        return follow(found, to + 1);
+    for (; byte_at(b.to) >= PLAIN; b.to++)
+        sum += byte_at(b.to);
+    if (byte_at(b.to) == EOT)
+        return follow(b, b.to);
+    if (byte_at(b.to) != ETX)
+        return no_block();
+    if (byte_at(b.to + 1) == STX || byte_at(b.to + 1) == EOT)
+        return follow(b, b.to + 1);
     unsigned carried = 0;
-    for (size_t i = 1; i <= 4; i++) {
-        int d = digit(byte_at(to + i));
-        if (d < 0)
-            return b;
-        carried = carried * 16 + (unsigned)d;
+    for (size_t i = b.to + 1; i < b.to + 5; i++) {
+        if (digit(byte_at(i)) < 0)
+            return no_block();
+        carried = carried * 16 + (unsigned)digit(byte_at(i));
     }
-    found.right = carried == (sum & 0xFFFF);
-    return follow(found, to + 5);
+    b.right = carried == (sum & 0xFFFF);
+    return follow(b, b.to + 5);
 }
 
 static void compare(void)
@@ -95,16 +94,15 @@ static void begin(size_t n, unsigned command)
         bytes[length++] = (uint8_t)(PLAIN + (i * 37 + n * 11 + command) % (256 - PLAIN));
 }
 
-/* The data, with their checksum and `off` more, ended by ETX. */
-static void end_with_sum(unsigned off)
+/* ETX, and the checksum with `off` added to it. */
+static void end_with_sum(size_t off)
 {
-    static const char digits[] = "0123456789ABCDEF";
     put("\003", 1);
-    unsigned sum = off;
+    size_t sum = off;
     for (size_t i = 0; i < length; i++)
         sum += bytes[i];
-    for (int shift = 12; shift >= 0; shift -= 4)
-        put(&digits[sum >> shift & 15], 1);
+    put_hex(bytes + length, sum, 4);
+    length += 4;
 }
 
 /* Good ends, then bad ones. */
@@ -128,7 +126,7 @@ static void blocks(size_t n)
     }
     for (unsigned command = PLAIN - 1; command < 256; command += 25)
         for (unsigned off = 0; off < 4; off++) {
-            static const unsigned by[] = {0, 1, 0xFFFF, 0x100};
+            static const size_t by[] = {0, 1, 0xFFFF, 0x100};
             begin(n, command);
             end_with_sum(by[off]);
             put("\004", 1);

@@ -11,7 +11,7 @@ use borrow.Author.Needs.{needs}
 use borrow.Author.Tests.{ne-eqb}
 use lib.ListN.{length, drop, length-take, length-drop}
 use lib.Seq.{drop-drop}
-use Rattle.octets.specs.Choice.{_is_, _!_, front, behind}
+use Rattle.octets.specs.Choice.{_is_, _!_, behind}
 use Rattle.octets.specs.Bytes.{STX, ETX, EOT, isPlain}
 use Rattle.octets.specs.Digits.{four}
 use Rattle.octets.specs.declared.hex.Four.{Four}
@@ -29,6 +29,7 @@ use Rattle.body.specs.declared.walk.Walked.{Walked}
 use Rattle.body.specs.declared.BlockStep.{BlockStep}
 use Rattle.body.specs.declared.BlockStep.the-variants.{Stray, More, Last}
 use Rattle.body.proofs.Sums.{sum-block}
+use Rattle.body.proofs.Walks.{left-within}
 
 -- ---- the end
 
@@ -126,9 +127,6 @@ pub ruleset behindData = (data-in, data-etx, data-last, data-stray, needs)
 
 -- ---- a block at place at
 
-front-short : (l : List ℕ) → length (front isPlain l) ≤ length l
-front-short l = omega (arith, length-take (length (front isPlain l)) l, ap length (take-front isPlain l))
-
 -- the places that the code adds up
 pub stx-fits : (s : List ℕ) (at x : ℕ) → x ≡ s ! at → x ≡ STX → length s < 2 ^ 64 → Fits w64 (at + 1)
 stx-fits s at x e h l = record { fits = omega (arith, there s at (omega arith)) }
@@ -155,7 +153,7 @@ module _ (s : List ℕ) (at o : ℕ) (w : Walked) (e : w ≡ walked (at + 2) o (
     pub found-in : Inside s at (w .to)
     found-in = record {
       ordered = omega (arith, ends);
-      within = omega (arith, ends, there s (at + 1) (omega arith), front-short (drop (at + 2) s), length-drop (at + 2) s);
+      within = omega (arith, ends, there s (at + 1) (omega arith), left-within s (at + 2));
     }
 
     pub found-sum : o ≡ opening c → (r : ℕ) → r ≡ (w .sum + ETX) % 65536 → r ≡ checksum c (part (at + 2) (w .to) s)

@@ -1,6 +1,6 @@
 -- What holds while bytes in a row are tested and added up, its steps, and the sum of a block.
 use mathlib.Core.Path.{_≡_, refl, sym, ap, _∙_}
-use mathlib.Core.Bool.{Bool, true, false, _&&_}
+use mathlib.Core.Bool.{Bool, true, _&&_}
 use mathlib.Core.List.{List, [], _∷_, _++_}
 use Prim.Native.Nat.{ℕ, _+_, _%_, _<_, _≤_}
 use native.Mathlib.Omega.{arith}
@@ -45,9 +45,9 @@ sum-append a [] m = refl
 sum-append a (x ∷ l) m = sum-append ((a + x) % 65536) l m
 
 -- STX and the command, then the data, then ETX
-pub sum-block : (c : ℕ) (d : List ℕ) (o all r : ℕ) → o ≡ opening c → all ≡ sumFrom o d → r ≡ (all + ETX) % 65536 → r ≡ checksum c d
+pub sum-block : (c : ℕ) (d : List ℕ) (o a r : ℕ) → o ≡ opening c → a ≡ sumFrom o d → r ≡ (a + ETX) % 65536 → r ≡ checksum c d
 unfolding checksum summed sumFrom opening
-sum-block c d o all r h e g = rw (g, e, h) (sym (sum-append ((2 + c) % 65536) d (3 ∷ [])))
+sum-block c d o a r h e g = rw (g, e, h) (sym (sum-append ((2 + c) % 65536) d (3 ∷ [])))
 
 pub sum-stretch : (c : ℕ) (d : List ℕ) (o : ℕ) → o ≡ opening c → (t : Stretch) → t ≡ stretched o d → (r : ℕ) → r ≡ (t .sum + ETX) % 65536 → r ≡ checksum c d
 sum-stretch c d o h t e r g = sum-block c d o (t .sum) r h (ap (λ x. x .sum) e) g

@@ -38,7 +38,7 @@ module _ (s : List ℕ) (to : ℕ) where
   unfolding front
   left-out h = rw (drop-of-length-le s h)
 
-  left-within : length (left s to) ≤ length s - to
+  pub left-within : length (left s to) ≤ length s - to
   left-within = omega (arith, ap length (take-front isPlain (drop to s)), length-take (length (left s to)) (drop to s), length-drop to s)
 
 -- ---- a walk that has come as far as a place
