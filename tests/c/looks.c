@@ -217,12 +217,12 @@ int main(void)
     run(&plain);
     run(&summed);
     for (uint8_t form = 1; form <= 3; form++) {
-        size_t put = form == 1 ? 3 : 6; /* put three times, and as often summed in forms 2 and 3 */
-        write(form, 1 + put);
-        reform(&plain, form, put);
-        reform(&summed, form, put);
-        join(&plain, &summed, form, put);
-        join(&summed, &plain, form, put);
+        size_t besides = form == 1 ? 3 : 6; /* put three times, and as often summed in forms 2 and 3 */
+        write(form, 1 + besides);
+        reform(&plain, form, besides);
+        reform(&summed, form, besides);
+        join(&plain, &summed, form, besides);
+        join(&summed, &plain, form, besides);
     }
     if (faults == 0)
         printf("looks: each call looks at a block's data as often as docs/DECISIONS.md says\n");
