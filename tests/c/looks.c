@@ -124,11 +124,11 @@ static void build(frame *f, unsigned form)
     count_walk(f);
 }
 
-/* Every byte of every message was looked at in so many walks, and so often besides. */
+/* Every byte of every block's data was looked at in so many walks, and so often besides. */
 static void each(const char *call, const frame *f, size_t walks, size_t besides)
 {
     for (size_t i = 0; i < BLOCKS; i++)
-        for (size_t at = f->from[i] + 1; at < f->to[i]; at++)
+        for (size_t at = f->from[i]; at < f->to[i]; at++)
             if (looks[at] != walks * f->walk[at] + besides) {
                 printf("%s, %s: byte %zu is looked at %zu times and not %zu\n", call, f == &plain ? "plain" : "summed", at, looks[at],
                        walks * f->walk[at] + besides);

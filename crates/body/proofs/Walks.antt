@@ -8,15 +8,14 @@ use mir.Val.{Fits}
 use native.Mathlib.Omega.{arith}
 use borrow.Author.Needs.{needs}
 use borrow.Author.Tests.{not-true, not-false}
-use lib.ListN.{length, take, drop, drop-of-length-le, length-take, length-drop, length-append}
+use lib.ListN.{length, take, drop, length-take, length-drop, length-append}
 use lib.Seq.{drop-drop}
 use Rattle.octets.specs.Choice.{front, all, _!_}
 use Rattle.octets.specs.Bytes.{isPlain}
-use Rattle.octets.proofs.Spots.{drop-on}
 use Rattle.octets.proofs.Tests.{by-test, never}
 use Rattle.octets.proofs.Scans.{plain, not-plain}
 use Rattle.octets.proofs.Lists.{all-head, all-tail}
-use Rattle.octets.proofs.Places.{take-front}
+use Rattle.octets.proofs.Places.{front-length, front-go, front-no, front-out}
 use Rattle.body.specs.Sum.{sumFrom}
 use Rattle.body.specs.Walking.{part, STRIDE, stretched, walked, left, Walks, Near}
 use Rattle.body.specs.declared.sum.Stretch.{Stretch}
@@ -27,19 +26,10 @@ use Rattle.body.proofs.Sums.{sum-append}
 
 module _ (s : List ℕ) (to : ℕ) where
   left-on : to < length s → 5 ≤ s ! to → left s to ≡ s ! to ∷ left s (to + 1)
-  unfolding front
-  left-on h k = rw (drop-on s to h, plain (s ! to) k)
-
-  left-stop : to < length s → s ! to < 5 → left s to ≡ []
-  unfolding front
-  left-stop h k = rw (drop-on s to h, not-plain (s ! to) k)
-
-  left-out : length s ≤ to → left s to ≡ []
-  unfolding front
-  left-out h = rw (drop-of-length-le s h)
+  left-on h k = front-go isPlain s to h (plain (s ! to) k)
 
   pub left-within : length (left s to) ≤ length s - to
-  left-within = omega (arith, ap length (take-front isPlain (drop to s)), length-take (length (left s to)) (drop to s), length-drop to s)
+  left-within = omega (arith, front-length isPlain (drop to s), length-drop to s)
 
 -- ---- a walk that has come as far as a place
 
@@ -66,10 +56,10 @@ module _ {s : List ℕ} {from start to sum : ℕ} (g : Walks s from start to sum
   }
 
   pub walk-stop : to < length s → s ! to < 5 → record { to = to; sum = sum } ≡ walked from start (left s from)
-  walk-stop h k = walk-done (left-stop s to h k)
+  walk-stop h k = walk-done (front-no isPlain s to h (not-plain (s ! to) k))
 
   pub walk-out : length s ≤ to → record { to = to; sum = sum } ≡ walked from start (left s from)
-  walk-out h = walk-done (left-out s to h)
+  walk-out h = walk-done (front-out isPlain s to h)
 
 -- a round takes one byte of the data: there are as many rounds as bytes
 pub walk-less : (s : List ℕ) (to : ℕ) → to < length s → 5 ≤ s ! to → length (left s (to + 1)) < length (left s to)

@@ -12,7 +12,7 @@ use lib.ListN.{length, take, drop, length-take, length-drop}
 use Rattle.octets.specs.Choice.{_!_, front}
 use Rattle.octets.specs.Bytes.{isPlain}
 use Rattle.octets.specs.Buffer.{splice, overlay}
-use Rattle.octets.proofs.Places.{take-front}
+use Rattle.octets.proofs.Places.{take-front, front-length}
 use Rattle.octets.proofs.Buffers.{length-splice}
 use Rattle.buffers.proofs.Splices.{splice-in, overlay-covers}
 use Rattle.board.specs.Files.{filesOf, find}
@@ -27,7 +27,7 @@ use Rattle.effects.specs.Effects.{board}
 use Rattle.commands.specs.Commands.{findOn, getContent, readFile}
 use Rattle.effects.specs.Leaving.{doneAs, Told, Replied, Tells}
 use Rattle.effects.specs.declared.Done.{Done}
-use Rattle.effects.proofs.ReplyLengths.{reply-length, front-length}
+use Rattle.effects.proofs.ReplyLengths.{reply-length}
 use Rattle.effects.proofs.Outcomes.{tells-refused, tells-replied}
 
 -- ---- a content without its zeros; n is where its bytes 05H to FFH end

@@ -1,15 +1,14 @@
 -- How long replies are: one with a part of memory fits a buffer of memory plus 64.
 use Prim.Native.Nat.{ℕ, _+_, _≤_}
-use mathlib.Core.Path.{_≡_, ap}
+use mathlib.Core.Path.{_≡_}
 use mathlib.Core.List.{List}
-use mathlib.Core.Bool.{Bool}
 use native.Mathlib.Omega.{arith}
 use lib.ListN.{length, take, drop, length-append, length-take, length-drop}
 use Rattle.octets.specs.Choice.{front}
 use Rattle.octets.specs.Hex.{inHex4}
 use Rattle.octets.specs.Buffer.{zeros}
 use Rattle.octets.specs.Bytes.{isPlain}
-use Rattle.octets.proofs.Places.{take-front}
+use Rattle.octets.proofs.Places.{front-length}
 use Rattle.body.specs.Sum.{summed}
 use Rattle.effects.specs.Reply.{replyOf}
 
@@ -17,10 +16,6 @@ use Rattle.effects.specs.Reply.{replyOf}
 pub reply-length : (code label : ℕ) (d : List ℕ) → length (replyOf code label d) ≡ 33 + length d
 unfolding replyOf summed inHex4 zeros
 reply-length code label d = simp length-append (omega arith)
-
--- the front of a list is no longer than the list
-pub front-length : (p : ℕ → Bool) (l : List ℕ) → length (front p l) ≤ length l
-front-length p l = omega (arith, ap length (take-front p l), length-take (length (front p l)) l)
 
 -- the reply with a part of memory fits
 pub content-fits : (code label : ℕ) (m : List ℕ) (start size : ℕ) →

@@ -8,21 +8,17 @@ use mir.Val.{Fits}
 use native.Mathlib.Omega.{arith}
 use borrow.Author.Needs.{needs}
 use borrow.Author.Tests.{lt-ltb, le-ltb, eq-eqb, ne-eqb}
-use lib.ListN.{length, drop, length-take, length-drop}
+use lib.ListN.{length, drop, length-drop}
 use lib.Seq.{drop-drop}
 use Rattle.octets.specs.Choice.{_!_, front, behind}
 use Rattle.octets.specs.Equal.{equals}
 use Rattle.octets.specs.Bytes.{NUL, SOH, isNul}
 use Rattle.octets.proofs.Spots.{head-at, there}
-use Rattle.octets.proofs.Places.{take-front, drop-front}
+use Rattle.octets.proofs.Places.{drop-front, front-length}
 use Rattle.reading.specs.Lead.{led, isSoh, fewestNul, fewestSoh, nulLead, sohLead, leadOf}
 use Rattle.reading.specs.Walking.{leadEnd}
 use Rattle.reading.specs.declared.lead.LeadEnd.{LeadEnd}
 use Rattle.reading.specs.declared.lead.LeadEnd.the-variants.{At, Wrong}
-
--- the front of a list is no longer than the list
-pub front-within : (p : ℕ → Bool) (l : List ℕ) → length (front p l) ≤ length l
-front-within p l = omega (arith, ap length (take-front p l), length-take (length (front p l)) l)
 
 -- the list from place n on is led, n bytes of it gone
 led-at : (t : List ℕ) (n : ℕ) → n ≤ length t → At n ≡ leadEnd t (led (drop n t))
@@ -67,7 +63,7 @@ module _ (t : List ℕ) (n : ℕ) (e : n ≡ 0 + length (front (equals SOH) (dro
 
   pub soh-good : k ≤ n → At n ≡ leadEnd t (sohLead printable t)
   unfolding sohLead
-  soh-good h = led-at t n (omega (arith, soh-count, front-within isSoh t)) ∙ rw (soh-count, ← f, le-ltb n k h, ← drop-front isSoh t, soh-count)
+  soh-good h = led-at t n (omega (arith, soh-count, front-length isSoh t)) ∙ rw (soh-count, ← f, le-ltb n k h, ← drop-front isSoh t, soh-count)
 
 -- the first byte says which
 module _ (t : List ℕ) (printable : Bool) (b : ℕ) (g : b ≡ t ! 0) (r : LeadEnd) where
