@@ -13,6 +13,7 @@ use lib.ListN.{length, drop, length-take, length-drop}
 use lib.Seq.{drop-drop}
 use Rattle.octets.specs.Choice.{_is_, _!_, behind}
 use Rattle.octets.specs.Bytes.{STX, ETX, EOT, isPlain}
+use Rattle.octets.specs.Carried.{capitals}
 use Rattle.octets.specs.Digits.{four}
 use Rattle.octets.specs.declared.hex.Four.{Four}
 use Rattle.octets.specs.declared.hex.Four.the-variants.{Value, Bad}
@@ -87,17 +88,17 @@ module _ (s : List ℕ) (at to c x : ℕ) (e : x ≡ s ! (to + 1)) (t : Bool) (d
   unfolding afterEtx
   etx-plain h r k = rw (etx-test ∙ h) k
 
-  module _ (n : t ≡ false) (f : Four) (g : f ≡ four (drop (to + 1) s)) where
+  module _ (n : t ≡ false) (f : Four) (g : f ≡ four (capitals (drop (to + 1) s))) where
     pub etx-stray : f ≡ Bad → Stray ≡ placed s at (afterEtx c (part (at + 2) to s) (drop (to + 1) s))
     unfolding afterEtx placed
-    etx-stray h = rw (etx-test ∙ n, four-none (drop (to + 1) s) (sym g ∙ h))
+    etx-stray h = rw (etx-test ∙ n, four-none (capitals (drop (to + 1) s)) (sym g ∙ h))
 
     pub etx-sum : (v sum : ℕ) (r : BlockStep) → f ≡ Value v → sum ≡ checksum c (part (at + 2) to s)
         → r ≡ placed s at (follow (block c (part (at + 2) to s) (v is sum)) (drop (to + 5) s))
         → r ≡ placed s at (afterEtx c (part (at + 2) to s) (drop (to + 1) s))
     unfolding afterEtx
     etx-sum v sum r h k q =
-        let w = four-some (drop (to + 1) s) v (sym g ∙ h) in
+        let w = four-some (capitals (drop (to + 1) s)) v (sym g ∙ h) in
         let five : to + 1 + 4 ≡ to + 5 = omega arith in
         rw (etx-test ∙ n, w .0, w .1, ← k, drop-drop, five) q
 

@@ -8,7 +8,7 @@ use octets::bytes::ETX;
 use octets::bytes::PLAIN;
 use octets::bytes::STX;
 use octets::hex::Four;
-use octets::hex::four_at;
+use octets::hex::carried_four_at;
 use octets::slices::byte_at;
 ghost use mathlib.Core.Path.{_≡_};
 ghost use mathlib.Core.Bool.{_||_};
@@ -77,7 +77,7 @@ fn after_etx(s: &[u8], at: usize, to: usize, command: u8, sum: u16) -> BlockStep
     if no_sum(byte_at(s, to + 1)) {
         return follow(s, at, to, command, true, to + 1);
     }
-    match four_at(s, to + 1) {
+    match carried_four_at(s, to + 1) {
         Four::Bad => BlockStep::Stray,
         Four::Value(v) => follow(s, at, to, command, v == sum, to + 5),
     }

@@ -8,6 +8,7 @@ use Rattle.renewal.specs.Renewing.{isCount, yearOf, monthOf, isYear, kept, reac
 use Rattle.renewal.specs.Days.{weekday, daysBetween}
 use Rattle.temperature.specs.Correcting.{isReading, addOffset}
 use Rattle.sign.specs.Errors.{portErrors}
+use Rattle.sign.proofs.Alike.{capitals-alike}
 use Rattle.sheet.specs.Sheet.{Every, bytes, start, inTurn, onFresh}
 use Rattle.sheet.proofs.Computing.{base}
 use Rattle.sheet.proofs.Examples.{_&_}
@@ -18,6 +19,7 @@ use Rattle.cases.specs.Index.{misplaced, indexTable}
 use Rattle.cases.specs.Renewals.{Answers, renewalsTable}
 use Rattle.cases.specs.Temperatures.{offsetsTable, Measures, temperaturesTable}
 use Rattle.cases.specs.Faults.{Shows as ShowsFault, registersTable, faultsTable}
+use Rattle.cases.specs.SmallLetters.{Shows as ShowsLetter, lettersTable, lettersShown}
 use Rattle.cases.specs.Witnesses.{Shows, witnesses}
 
 pub numbers : allHold numbersTable ≡ true
@@ -73,6 +75,17 @@ faults =
     & (refl, refl) & (refl, refl) & (refl, refl) & (refl, refl) & (refl, refl) & (refl, refl) & (refl, refl) & (refl, refl) & refl & (refl, refl)
     & (refl, refl) & refl & refl & refl & refl & refl & refl & refl & refl & refl
     & refl & refl & refl & tt
+
+pub letters : allHold lettersTable ≡ true
+unfolding numberOf blockNumber holds allHold lettersTable bytes start inTurn onFresh base
+letters = refl
+
+pub letters-shown : Every ShowsLetter lettersShown
+unfolding lettersShown bytes start inTurn onFresh base
+letters-shown =
+    refl & refl & refl & refl & refl & refl & refl & refl & refl & refl
+    & refl & refl
+    & (λ s m o. capitals-alike s m o (bytes "_01Zaf,a?b_02AAHELLO_0301fb_04") (bytes "_01ZAF,a?B_02AAHELLO_0301FB_04") refl) & tt
 
 pub shown : Every Shows witnesses
 unfolding witnesses bytes start inTurn onFresh base

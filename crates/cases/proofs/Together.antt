@@ -15,13 +15,13 @@ use Rattle.packing.proofs.Answer.{packed}
 use Rattle.sheet.specs.Sheet.{bytes, start}
 use Rattle.sheet.proofs.Computing.{base}
 
--- a file of ten bytes and a message for it
+-- a file of ten bytes and a message for it, from a meter that sends small letters
 pub first : List ℕ
-first = bytes "_01Z00_02E$AAU000AFF00_03_02AAHELLO_04"
+first = bytes "_01Z00,C0a_02E$AAU000aff00_03_02AAHELLO_0301fb_04"
 
 -- another message, one for a file that is not there, and a read
 pub second : List ℕ
-second = bytes "\0\0\0\0\0\u{1}Z00\u{2}AAFULL\u{3}01BA\u{2}ABFULL\u{3}\u{2}BA\u{4}"
+second = bytes "\0\0\0\0\0\u{1}Z00,C0A\u{2}AAFULL\u{3}01BA\u{2}ABFULL\u{3}\u{2}BA\u{4}"
 
 -- both in one
 pub joined : List ℕ

@@ -5,4 +5,5 @@ pub mod Index
 pub mod Renewals
 pub mod Temperatures
 pub mod Faults
+pub mod SmallLetters
 pub mod Witnesses

@@ -105,7 +105,7 @@ numbersTable =
     ∷ row 4 (frames 64 ((times 5 (1 ∷ []) ++ bytes "Z00\u{2}E'S\u{4}") ∷ [])) (frames 64 ((times 6 (1 ∷ []) ++ bytes "Z00\u{2}E'S\u{4}") ∷ []))
     ∷ row 4 (frames 64 (bytes "_00_00Z00_02E'S_04" ∷ [])) (frames 64 (bytes "_00_00_01Z00_02E'S_04" ∷ []))
     -- 5 "printable: bad escape or byte outside 20H to 7EH"
-    ∷ row 5 (frames 64 (bytes "_01Z00_02E'_4d_04" ∷ [])) (frames 64 (bytes "_01Z00_02E'_4D_04" ∷ []))
+    ∷ row 5 (frames 64 (bytes "_01Z00_02E'_4G_04" ∷ [])) (frames 64 (bytes "_01Z00_02E'_4D_04" ∷ []))
     ∷ row 5 (frames 64 (bytes "_01Z00_02AA\u{7f}_04" ∷ [])) (frames 64 (bytes "_01Z00_02AA~_04" ∷ []))
     ∷ row 5 (frames 64 (bytes "_01Z00_02E'S_04_0" ∷ [])) (frames 64 (bytes "_01Z00_02E'S_04" ∷ []))
     -- 6 "bad header, or "z""
@@ -119,7 +119,7 @@ numbersTable =
     ∷ row 7 (frames 64 (many 65 ∷ [])) (frames 64 (many 64 ∷ []))
     ∷ row 7 (frames 64 (bytes "_01Z00_02E'S_04 " ∷ [])) (frames 64 (E'S ∷ []))
     ∷ row 7 (frames 64 (bytes "_01Z00_02_04" ∷ [])) (frames 64 (bytes "_01Z00_02E_04" ∷ []))
-    ∷ row 7 (frames 64 (bytes "_01Z00_02E'S_0300c4_04" ∷ [])) (frames 64 (bytes "_01Z00_02E'S_0300C4_04" ∷ []))
+    ∷ row 7 (frames 64 (bytes "_01Z00_02E'S_0300G4_04" ∷ [])) (frames 64 (bytes "_01Z00_02E'S_0300C4_04" ∷ []))
     -- 8 "a read that is not last"
     ∷ row 8 (frames 64 (bytes "_01Z00_02F!_03_02E'S_04" ∷ [])) (frames 64 (bytes "_01Z00_02E'S_03_02F!_04" ∷ []))
     -- 9 "not addressed"

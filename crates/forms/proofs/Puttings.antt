@@ -14,6 +14,8 @@ use Rattle.octets.specs.Buffer.{zeros}
 use Rattle.octets.specs.Bytes.{SOH, STX, ETX, ESCAPE}
 use Rattle.octets.specs.Hex.{digit, inHex4}
 use Rattle.octets.proofs.Tests.{choice}
+use Rattle.header.specs.Capitals.{headerCapitals}
+use Rattle.header.proofs.InCapitals.{header-long}
 use Rattle.body.specs.Sum.{checksum}
 use Rattle.body.proofs.Plain.{checksum-small}
 use Rattle.forms.specs.Forms.{isItself, escapeOf, nuls}
@@ -123,6 +125,21 @@ module _ {o : List ℕ} {at form : ℕ} {s o₁ : List ℕ} {next i : ℕ} (g : 
 
 pub ruleset copying = (copy-start, copy-room, copy-on, copy-end, needs)
 
+-- ---- the bytes of a header text, in capitals
+
+module _ {o : List ℕ} {at form : ℕ} (h : List ℕ) {o₁ : List ℕ} {next i : ℕ} (g : Copying o at form (headerCapitals h) o₁ next i) where
+  pub header-room : at + 3 * length h ≤ FAR → i < length h → next + 3 ≤ FAR
+  header-room f l = copy-room g (rw (header-long h) f) (rw (header-long h) l)
+
+  pub header-on : {o₂ : List ℕ} {n : ℕ} → i < length h → (x : ℕ) → x ≡ headerCapitals h ! i → Puts o₁ next (encode form (x ∷ [])) o₂ n
+      → Copying o at form (headerCapitals h) o₂ n (i + 1)
+  header-on l x e p = copy-on g (rw (header-long h) l) (rw (← e) p)
+
+  pub header-end : length h ≤ i → Puts o at (encode form (headerCapitals h)) o₁ next
+  header-end l = copy-end g (rw (header-long h) l)
+
+pub ruleset capitals = (copy-start, header-room, header-on, header-end, needs)
+
 -- ---- the pieces of a block
 
 -- nothing is put where a form asks nothing
@@ -205,5 +222,7 @@ module _ {o o₁ : List ℕ} {at n : ℕ} (form : ℕ) where
   pub nuls-near : Puts o at (encode form (nuls form)) o₁ n → n ≤ at + 15
   nuls-near p = omega (arith, puts-near form (nuls form) p, nuls-length form)
 
-  pub heading-near : (h : List ℕ) → Puts o at (encode form (heading form h)) o₁ n → n ≤ at + 18 + 3 * length h
-  heading-near h p = omega (arith, puts-near form (heading form h) p, heading-length form h)
+  pub heading-near : (h : List ℕ) → Puts o at (encode form (heading form (headerCapitals h))) o₁ n → n ≤ at + 18 + 3 * length h
+  heading-near h p =
+      let g : List ℕ = headerCapitals h in
+      omega (arith, puts-near form (heading form g) p, heading-length form g, header-long h)

@@ -1,6 +1,7 @@
 // "Three forms we write": each call puts bytes into a buffer from a place on and answers the next place.
 // A byte that finds no place in the buffer is left out, so that a run over a buffer of no use counts what a result will take.
 use body::sum::checksum;
+use header::capitals::capital_at;
 use octets::bytes::EOT;
 use octets::bytes::ESCAPE;
 use octets::bytes::ETX;
@@ -17,6 +18,7 @@ ghost use Prim.Native.Nat.{_+_, _*_, _≤_};
 ghost use lib.ListN.{length};
 ghost use Rattle.octets.specs.Bytes.{STX, EOT};
 ghost use Rattle.octets.specs.Hex.{inHex4};
+ghost use Rattle.header.specs.Capitals.{headerCapitals};
 ghost use Rattle.forms.specs.Forms.{isItself, escapeOf, nuls};
 ghost use Rattle.forms.specs.Pieces.{FAR, Puts, inHex2, encode, parting, ending, piece, heading};
 
@@ -88,6 +90,20 @@ fn put_all(out: &mut [u8], at: usize, form: u8, s: &[u8]) -> usize
     let mut i = 0;
     while i < s.len() {
         next = put_one(out, next, form, s[i]);
+        i += 1;
+    }
+    next
+}
+
+// A header text, in capitals: "header addresses we write".
+fn put_header(out: &mut [u8], at: usize, form: u8, h: &[u8]) -> usize
+    requires { ⌜ at + 3 * length (now h) ≤ FAR ⌝ }
+    ensures { λ r. ⌜ Puts (now (out .entry)) at (encode form (headerCapitals (now (h .entry)))) (now (out .exit)) r ⌝ }
+{
+    let mut next = at;
+    let mut i = 0;
+    while i < h.len() {
+        next = put_one(out, next, form, capital_at(h, i));
         i += 1;
     }
     next
@@ -173,14 +189,14 @@ fn put_nuls(out: &mut [u8], form: u8) -> usize
     put_all(out, 0, form, &[NUL; 5])
 }
 
-// What stands before the blocks: "five NUL, SOH, header".
+// What stands before the blocks: "five NUL, SOH, header", this in capitals.
 pub fn put_heading(out: &mut [u8], form: u8, h: &[u8]) -> usize
     requires { ⌜ 18 + 3 * length (now h) ≤ FAR ⌝ }
-    ensures { λ r. ⌜ Puts (now (out .entry)) 0 (encode form (heading form (now (h .entry)))) (now (out .exit)) r ⌝ }
+    ensures { λ r. ⌜ Puts (now (out .entry)) 0 (encode form (heading form (headerCapitals (now (h .entry))))) (now (out .exit)) r ⌝ }
 {
     let a = put_nuls(out, form);
     let b = put_one(out, a, form, SOH);
-    put_all(out, b, form, h)
+    put_header(out, b, form, h)
 }
 
 // "EOT".

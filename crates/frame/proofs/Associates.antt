@@ -10,7 +10,8 @@ use Rattle.octets.proofs.Tests.{or-out-right}
 use Rattle.octets.proofs.Lists.{same-self}
 use Rattle.body.specs.Body.{Block, hasRead}
 use Rattle.reading.specs.Reading.{frame, read}
-use Rattle.reading.proofs.FrameLaws.{read-plain}
+use Rattle.reading.specs.Capitals.{inCapitals}
+use Rattle.reading.proofs.InCapitals.{capitals-plain}
 use Rattle.writing.specs.Output.{isOver}
 use Rattle.writing.specs.Reforming.{checked}
 use Rattle.writing.specs.Joining.{putJoined, join}
@@ -18,7 +19,7 @@ use Rattle.frame.proofs.Appending.{hasRead-append}
 use Rattle.frame.proofs.Limits.{over-first, over-second}
 use Rattle.frame.proofs.Succeeds.{checked-right, join-only-if, join-succeeds}
 use Rattle.frame.specs.Results.{resultOf}
-use Rattle.frame.proofs.Delivered.{written-right, join-reads, same-header, same-blocks, join-buffers}
+use Rattle.frame.proofs.Delivered.{capital-reads, written-right, join-reads, same-header, same-blocks, join-buffers}
 
 -- the first two joined in a form, and then the third to them
 pub record FromLeft (i k : ℕ) (f g e o o′ : List ℕ) : Type 0 where
@@ -32,8 +33,8 @@ pub record FromRight (j k : ℕ) (f g e o o′ : List ℕ) : Type 0 where
 
 -- ---- the same
 
-turned : (k : ℕ) (f e fg ge o h : List ℕ) (bs cs ds : List Block) → checked (read f) ≡ frame h bs → checked (read e) ≡ frame h ds
-    → checked (read fg) ≡ frame h (bs ++ cs) → checked (read ge) ≡ frame h (cs ++ ds) → hasRead bs ≡ false → hasRead cs ≡ false
+turned : (k : ℕ) (f e fg ge o h : List ℕ) (bs cs ds : List Block) → checked (inCapitals (read f)) ≡ frame h bs → checked (inCapitals (read e)) ≡ frame h ds
+    → checked (inCapitals (read fg)) ≡ frame h (bs ++ cs) → checked (inCapitals (read ge)) ≡ frame h (cs ++ ds) → hasRead bs ≡ false → hasRead cs ≡ false
     → join k fg e o ≡ join k f ge o
 unfolding join putJoined
 turned k f e fg ge o h bs cs ds p q r s m n =
@@ -51,11 +52,11 @@ module _ (i j : ℕ) (f g e o₁ o₂ : List ℕ) (a : all isByte f ≡ true) (b
       let h = x .header in
       let eh : y .header ≡ h = same-header g (y .header) h (y .first) (x .second) (y .one .reads) (x .other .reads) in
       let eb : y .first ≡ x .second = same-blocks g (y .header) h (y .first) (x .second) (y .one .reads) (x .other .reads) in
-      let p : checked (read f) ≡ frame h (x .first) = checked-right f h (x .first) (x .one .reads) (x .one .right) in
-      let q : checked (read e) ≡ frame h (y .second) =
+      let p : checked (inCapitals (read f)) ≡ frame h (x .first) = checked-right f h (x .first) (x .one .reads) (x .one .right) in
+      let q : checked (inCapitals (read e)) ≡ frame h (y .second) =
       rw eh at (checked-right e (y .header) (y .second) (y .other .reads) (y .other .right)) in
-      let r : checked (read fg) ≡ frame h (x .first ++ x .second) = written-right i h (x .first ++ x .second) (join i f g o₁) (x .result) in
-      let s : checked (read ge) ≡ frame h (x .second ++ y .second) =
+      let r : checked (inCapitals (read fg)) ≡ frame h (x .first ++ x .second) = written-right i h (x .first ++ x .second) (join i f g o₁) (x .result) in
+      let s : checked (inCapitals (read ge)) ≡ frame h (x .second ++ y .second) =
       rw (eh, eb) at (written-right j (y .header) (y .first ++ y .second) (join j g e o₂) (y .result)) in
       turned k f e fg ge o h (x .first) (x .second) (y .second) p q r s (x .calm) (rw eb at (y .calm))
 
@@ -72,8 +73,8 @@ join-associative i j k f g e o₁ o₂ o₃ o₄ a b c l r =
 -- ---- where the one succeeds, so does the other
 
 -- what reads has a block
-some-blocks : (s h : List ℕ) (bs : List Block) → read s ≡ frame h bs → 1 ≤ length bs
-some-blocks s h bs e = read-plain s h bs e .blocks .some
+some-blocks : (s h : List ℕ) (bs : List Block) → inCapitals (read s) ≡ frame h bs → 1 ≤ length bs
+some-blocks s h bs e = capitals-plain s h bs e .blocks .some
 
 join-roomy : (k : ℕ) (f g o o′ : List ℕ) → join k f g o .answer .number ≡ 0 → 24576 ≤ length o′ → join k f g o′ .answer .number ≡ 0
 join-roomy k f g o o′ z r =
@@ -87,14 +88,15 @@ module _ (k : ℕ) (f g e o₁ o₂ o₃ o₄ : List ℕ) (a : all isByte f ≡ 
   joins-from-the-right l r₂ r₄ =
       let fg : List ℕ = resultOf (join k f g o₁) in
       let x = join-reads k f g o₁ a b (l .inner) in
+      let x-reads = capital-reads k (x .header) (x .first ++ x .second) (join k f g o₁) (x .result) in
       let w = join-only-if k fg e o₃ (l .outer) in
       let h = x .header in
       let bs = x .first in
       let cs = x .second in
       let ds = w .second in
-      let eh : w .header ≡ h = same-header fg (w .header) h (w .first) (bs ++ cs) (w .one .reads) (x .result .reads) in
-      let eb : w .first ≡ bs ++ cs = same-blocks fg (w .header) h (w .first) (bs ++ cs) (w .one .reads) (x .result .reads) in
-      let third : read e ≡ frame h ds = rw eh at (w .other .reads) in
+      let eh : w .header ≡ h = same-header fg (w .header) h (w .first) (bs ++ cs) (w .one .reads) x-reads in
+      let eb : w .first ≡ bs ++ cs = same-blocks fg (w .header) h (w .first) (bs ++ cs) (w .one .reads) x-reads in
+      let third : inCapitals (read e) ≡ frame h ds = rw eh at (w .other .reads) in
       let v : isOver k h (bs ++ (cs ++ ds)) ≡ false = rw (eh, eb, append-assoc bs cs ds) at (w .within) in
       let n : hasRead cs ≡ false = or-out-right (hasRead bs) (hasRead cs) (rw (eb, hasRead-append bs cs) at (w .calm)) in
       let some : 1 ≤ length (cs ++ ds) = rw length-append (omega (arith, some-blocks g h cs (x .other .reads))) in
@@ -109,14 +111,15 @@ module _ (k : ℕ) (f g e o₁ o₂ o₃ o₄ : List ℕ) (a : all isByte f ≡ 
   joins-from-the-left r r₁ r₃ =
       let ge : List ℕ = resultOf (join k g e o₂) in
       let y = join-reads k g e o₂ b c (r .inner) in
+      let y-reads = capital-reads k (y .header) (y .first ++ y .second) (join k g e o₂) (y .result) in
       let w = join-only-if k f ge o₄ (r .outer) in
       let h = y .header in
       let bs = w .first in
       let cs = y .first in
       let ds = y .second in
-      let eh : w .header ≡ h = same-header ge (w .header) h (w .second) (cs ++ ds) (w .other .reads) (y .result .reads) in
-      let eb : w .second ≡ cs ++ ds = same-blocks ge (w .header) h (w .second) (cs ++ ds) (w .other .reads) (y .result .reads) in
-      let one : read f ≡ frame h bs = rw eh at (w .one .reads) in
+      let eh : w .header ≡ h = same-header ge (w .header) h (w .second) (cs ++ ds) (w .other .reads) y-reads in
+      let eb : w .second ≡ cs ++ ds = same-blocks ge (w .header) h (w .second) (cs ++ ds) (w .other .reads) y-reads in
+      let one : inCapitals (read f) ≡ frame h bs = rw eh at (w .one .reads) in
       let v : isOver k h (bs ++ cs ++ ds) ≡ false = rw (eh, eb, ← append-assoc bs cs ds) at (w .within) in
       let some : 1 ≤ length (bs ++ cs) = rw length-append (omega (arith, some-blocks g h cs (y .one .reads))) in
       let z : join k f g o₁ .answer .number ≡ 0 =

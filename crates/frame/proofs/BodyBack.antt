@@ -12,7 +12,8 @@ use Rattle.octets.specs.Hex.{digit, inHex4}
 use Rattle.octets.specs.Bytes.{ETX, EOT, BLOCKS, isPlain}
 use Rattle.octets.proofs.Tests.{choice}
 use Rattle.octets.proofs.Lists.{front-stop, behind-stop}
-use Rattle.octets.proofs.Digits.{digit-big, isHex4-inHex4, hex4-inHex4}
+use Rattle.octets.proofs.Digits.{digit-big}
+use Rattle.octets.proofs.Capitals.{isCarried4-inHex4, carried4-inHex4}
 use Rattle.body.specs.Sum.{checksum}
 use Rattle.body.specs.Body.{Block, block, more, last, body, follow, afterEtx, afterData, blockAt, prepend, onward, blocks}
 use Rattle.body.proofs.Plain.{BlockOf, Plain, righted, checksum-small}
@@ -46,8 +47,8 @@ after-digits c d v l h =
     simp (
       ne-eqb (digit (v / 4096)) 2 (λ e. omega (arith, digit-big (v / 4096))),
       ne-eqb (digit (v / 4096)) 4 (λ e. omega (arith, digit-big (v / 4096))),
-      isHex4-inHex4 v h l,
-      hex4-inHex4 v h l,
+      isCarried4-inHex4 v h l,
+      carried4-inHex4 v h l,
     )
 
 -- ETX and the checksum after the data

@@ -11,10 +11,14 @@ use Rattle.octets.specs.Buffer.{overlay}
 use Rattle.octets.specs.Bytes.{isPlain}
 use Rattle.octets.proofs.Tests.{split}
 use Rattle.header.specs.Header.{isHeader}
+use Rattle.header.specs.Capitals.{headerCapitals, noSmall}
+use Rattle.header.proofs.InCapitals.{header-same, header-none, header-own}
 use Rattle.body.specs.Body.{Block, block, readNotLast}
 use Rattle.body.proofs.Taken.{Blocks}
 use Rattle.reading.specs.Reading.{frame, read}
-use Rattle.reading.proofs.FrameLaws.{FrameOf, read-bytes}
+use Rattle.reading.specs.Capitals.{inCapitals}
+use Rattle.reading.proofs.FrameLaws.{FrameOf}
+use Rattle.reading.proofs.InCapitals.{capitals-bytes, capitals-none}
 use Rattle.forms.specs.Forms.{render}
 use Rattle.writing.specs.Output.{Output, isOver, delivered}
 use Rattle.writing.specs.Writing.{write}
@@ -34,13 +38,19 @@ pub result-delivered : (s o : List ℕ) → resultOf (delivered s o) ≡ s
 unfolding overlay
 result-delivered s o = take-append-seam s (drop (length s) o)
 
+-- its header is in capitals
+pub capital-reads : (k : ℕ) (h : List ℕ) (bs : List Block) (x : Output) → Carries k h bs x → inCapitals (read (resultOf x)) ≡ frame h bs
+unfolding inCapitals
+capital-reads k h bs x r = ap inCapitals (r .reads) ∙ ap (λ (g : List ℕ). frame g bs) (header-own h (r .capital))
+
 -- so it passes the check of its sums
-pub written-right : (k : ℕ) (h : List ℕ) (bs : List Block) (x : Output) → Carries k h bs x → checked (read (resultOf x)) ≡ frame h bs
-written-right k h bs x r = checked-right (resultOf x) h bs (r .reads) (r .right)
+pub written-right : (k : ℕ) (h : List ℕ) (bs : List Block) (x : Output) → Carries k h bs x
+    → checked (inCapitals (read (resultOf x))) ≡ frame h bs
+written-right k h bs x r = checked-right (resultOf x) h bs (capital-reads k h bs x r) (r .right)
 
 -- a form that is delivered
-module _ (k : ℕ) (h : List ℕ) (bs : List Block) (o : List ℕ) (n : ℕ) (e : isHeader h ≡ true) (g : Blocks isByte n bs)
-    (nl : readNotLast false bs ≡ false) (ar : allRight bs ≡ true) (v : isOver k h bs ≡ false) where
+module _ (k : ℕ) (h : List ℕ) (bs : List Block) (o : List ℕ) (n : ℕ) (e : isHeader h ≡ true) (hc : noSmall h ≡ true)
+    (g : Blocks isByte n bs) (nl : readNotLast false bs ≡ false) (ar : allRight bs ≡ true) (v : isOver k h bs ≡ false) where
   reads-back : read (render k h bs) ≡ frame h bs
   reads-back =
       let w = within k h bs v in
@@ -51,17 +61,17 @@ module _ (k : ℕ) (h : List ℕ) (bs : List Block) (o : List ℕ) (n : ℕ) (e 
   put-holds : (x : Output) → x ≡ delivered (render k h bs) o → Carries k h bs x
   put-holds x d =
       let t : resultOf x ≡ render k h bs = ap resultOf d ∙ result-delivered (render k h bs) o in
-      record { bytes = t; reads = ap read t ∙ reads-back; right = ar; small = rw t (render-bytes k h bs e (g .passing)); within = v }
+      record { bytes = t; capital = hc; reads = ap read t ∙ reads-back; right = ar; small = rw t (render-bytes k h bs e (g .passing)); within = v }
 
 -- ---- writing
 
 -- a one-command frame
 pub write-reads : (k : ℕ) (h : List ℕ) (c : ℕ) (d o : List ℕ) → isByte c ≡ true → all isByte d ≡ true → write k h c d o .answer .number ≡ 0
-    → Carries k h (block c d true ∷ []) (write k h c d o)
+    → Carries k (headerCapitals h) (block c d true ∷ []) (write k h c d o)
 write-reads k h c d o x y z =
     let w = write-only-if k h c d o z in
     let p = split (isPlain c) (w .plain) in
-    put-holds k h (block c d true ∷ []) o 1 (w .header)
+    put-holds k (headerCapitals h) (block c d true ∷ []) o 1 (header-same h ∙ w .header) (header-none h)
     (record {
       plain = (record { leading = p .0; following = p .1 }, tt);
       passing = (record { leading = x; following = y }, tt);
@@ -85,12 +95,14 @@ reform-reads k s o a z =
     let w = reform-only-if k s o z in
     let h = w .header in
     let bs = w .blocks in
-    let f = read-bytes s h bs a (w .reads) in
+    let f = capitals-bytes s h bs a (w .reads) in
     record {
       header = h;
       blocks = bs;
       given = record { reads = w .reads; right = w .right };
-      result = put-holds k h bs o 64 (f .header) (f .blocks) (f .reads) (w .right) (w .within) (reform k s o) (reform-gives k s o w);
+      result =
+          put-holds k h bs o 64 (f .header) (capitals-none (read s) h bs (w .reads)) (f .blocks) (f .reads) (w .right) (w .within) (reform k s o)
+          (reform-gives k s o w);
     }
 
 -- ---- joining
@@ -103,8 +115,8 @@ join-reads k f g o a b z =
     let h = w .header in
     let bs = w .first in
     let cs = w .second in
-    let p = read-bytes f h bs a (w .one .reads) in
-    let q = read-bytes g h cs b (w .other .reads) in
+    let p = capitals-bytes f h bs a (w .one .reads) in
+    let q = capitals-bytes g h cs b (w .other .reads) in
     record {
       header = h;
       first = bs;
@@ -113,7 +125,7 @@ join-reads k f g o a b z =
       other = w .other;
       calm = w .calm;
       result =
-          put-holds k h (bs ++ cs) o 128 (p .header) (blocks-append isByte 64 64 bs cs (p .blocks) (q .blocks))
+          put-holds k h (bs ++ cs) o 128 (p .header) (capitals-none (read f) h bs (w .one .reads)) (blocks-append isByte 64 64 bs cs (p .blocks) (q .blocks))
           (reads-append bs cs (w .calm) ∙ q .reads) (rw (right-append bs cs, w .one .right, w .other .right)) (w .within)
           (join k f g o) (join-gives k f g o w);
     }
@@ -121,8 +133,8 @@ join-reads k f g o a b z =
 -- ---- whatever the buffer
 
 -- a frame reads in one way
-module _ (s h h′ : List ℕ) (bs cs : List Block) (p : read s ≡ frame h bs) (q : read s ≡ frame h′ cs) where
-  -- with one header text
+module _ (s h h′ : List ℕ) (bs cs : List Block) (p : inCapitals (read s) ≡ frame h bs) (q : inCapitals (read s) ≡ frame h′ cs) where
+  -- with one header text, in capitals
   pub same-header : h ≡ h′
   same-header = cc
 
@@ -131,7 +143,7 @@ module _ (s h h′ : List ℕ) (bs cs : List Block) (p : read s ≡ frame h bs) 
   same-blocks = cc
 
 -- the result of joining, by what reads
-pub join-result : (k : ℕ) (f g o h h′ : List ℕ) (bs cs : List Block) → read f ≡ frame h bs → read g ≡ frame h′ cs
+pub join-result : (k : ℕ) (f g o h h′ : List ℕ) (bs cs : List Block) → inCapitals (read f) ≡ frame h bs → inCapitals (read g) ≡ frame h′ cs
     → join k f g o .answer .number ≡ 0 → resultOf (join k f g o) ≡ render k h (bs ++ cs)
 join-result k f g o h h′ bs cs p q z =
     let w = join-only-if k f g o z in

@@ -5,8 +5,11 @@ use mathlib.Core.Bool.{true}
 use mathlib.Core.List.{List, [], _∷_}
 use Prim.Native.Nat.{ℕ}
 use Rattle.octets.specs.Choice.{isByte, all}
-use Rattle.body.specs.Body.{block}
+use Rattle.header.specs.Capitals.{headerCapitals, noSmall}
+use Rattle.header.proofs.InCapitals.{header-own}
+use Rattle.body.specs.Body.{Block, block}
 use Rattle.reading.specs.Reading.{frame, read}
+use Rattle.reading.specs.Capitals.{inCapitals}
 use Rattle.writing.specs.Output.{Output}
 use Rattle.writing.specs.Writing.{write}
 use Rattle.writing.specs.Reforming.{reform}
@@ -21,17 +24,30 @@ module _ (x : Output) where
   zero-of : (y : Output) → x ≡ y → x .answer .number ≡ 0 → y .answer .number ≡ 0
   zero-of y e z = sym (ap (λ (p : Output). p .answer .number) e) ∙ z
 
-  -- frames that we write read back as the same header and the same commands: that header and that one command, of bytes
+  -- frames that we write read back as the same header and the same commands: that header, in capitals, and that one command, of bytes
   pub written-back : (k : ℕ) (h : List ℕ) (c : ℕ) (d o : List ℕ) → isByte c ≡ true → all isByte d ≡ true
-      → x ≡ write k h c d o → x .answer .number ≡ 0 → read (resultOf x) ≡ frame h (block c d true ∷ [])
+      → x ≡ write k h c d o → x .answer .number ≡ 0 → read (resultOf x) ≡ frame (headerCapitals h) (block c d true ∷ [])
   written-back k h c d o a b e z =
-      subst (λ (p : Output). Carries k h (block c d true ∷ []) p) (sym e) (write-reads k h c d o a b (zero-of (write k h c d o) e z)) .reads
+      subst (λ (p : Output). Carries k (headerCapitals h) (block c d true ∷ []) p) (sym e) (write-reads k h c d o a b (zero-of (write k h c d o) e z)) .reads
 
-  -- frames that we re-form: what was read of a frame of bytes
-  pub reformed-back : (k : ℕ) (s o : List ℕ) → all isByte s ≡ true → x ≡ reform k s o → x .answer .number ≡ 0 → read (resultOf x) ≡ read s
+  -- a header without small letters comes back as it is
+  pub written-back-as-is : (k : ℕ) (h : List ℕ) (c : ℕ) (d o : List ℕ) → isByte c ≡ true → all isByte d ≡ true → noSmall h ≡ true
+      → x ≡ write k h c d o → x .answer .number ≡ 0 → read (resultOf x) ≡ frame h (block c d true ∷ [])
+  written-back-as-is k h c d o a b n e z = written-back k h c d o a b e z ∙ ap (λ (g : List ℕ). frame g (block c d true ∷ [])) (header-own h n)
+
+  -- frames that we re-form: what was read of a frame of bytes, its header in capitals
+  pub reformed-back : (k : ℕ) (s o : List ℕ) → all isByte s ≡ true → x ≡ reform k s o → x .answer .number ≡ 0
+      → read (resultOf x) ≡ inCapitals (read s)
   reformed-back k s o a e z = ap (λ (p : Output). read (resultOf p)) e ∙ reform-keeps k s o a (zero-of (reform k s o) e z)
 
-  -- frames that we join, of bytes: the common header, the first frame's commands followed by the second's, their sums right or none
+  -- a frame whose header is without them reads as before
+  pub reformed-back-as-is : (k : ℕ) (s o h : List ℕ) (bs : List Block) → all isByte s ≡ true → read s ≡ frame h bs → noSmall h ≡ true
+      → x ≡ reform k s o → x .answer .number ≡ 0 → read (resultOf x) ≡ read s
+  unfolding inCapitals
+  reformed-back-as-is k s o h bs a r n e z =
+      reformed-back k s o a e z ∙ ap inCapitals r ∙ ap (λ (g : List ℕ). frame g bs) (header-own h n) ∙ sym r
+
+  -- frames that we join, of bytes: the common header, in capitals, the first frame's commands followed by the second's, their sums right or none
   pub joined-back : (k : ℕ) (f g o : List ℕ) → all isByte f ≡ true → all isByte g ≡ true
       → x ≡ join k f g o → x .answer .number ≡ 0 → Joined k f g x
   joined-back k f g o a b e z = subst (λ (p : Output). Joined k f g p) (sym e) (join-reads k f g o a b (zero-of (join k f g o) e z))

@@ -12,9 +12,11 @@ use Rattle.octets.specs.Bytes.{isPlain}
 use Rattle.octets.proofs.Tests.{choice}
 use Rattle.octets.proofs.Lists.{same-eq, same-self}
 use Rattle.header.specs.Header.{isHeader}
+use Rattle.header.specs.Capitals.{headerCapitals}
 use Rattle.body.specs.Body.{Block, block, hasRead}
 use Rattle.reading.specs.Reading.{Reading, refused, frame, read}
-use Rattle.reading.proofs.FrameLaws.{read-number}
+use Rattle.reading.specs.Capitals.{inCapitals}
+use Rattle.reading.proofs.InCapitals.{capitals-number}
 use Rattle.forms.specs.Forms.{render}
 use Rattle.writing.specs.Output.{Output, isForm, isOver, unwritten, delivered, putNumber, put}
 use Rattle.writing.specs.Writing.{write}
@@ -57,21 +59,21 @@ pub record Writable (k : ℕ) (h : List ℕ) (c : ℕ) (d o : List ℕ) : Type 0
   pub form : isForm k ≡ true
   pub header : isHeader h ≡ true
   pub plain : (isPlain c && all isPlain d) ≡ true
-  pub within : isOver k h (block c d true ∷ []) ≡ false
-  pub room : length (render k h (block c d true ∷ [])) ≤ length o
+  pub within : isOver k (headerCapitals h) (block c d true ∷ []) ≡ false
+  pub room : length (render k (headerCapitals h) (block c d true ∷ [])) ≤ length o
 
 module _ (k : ℕ) (h : List ℕ) (c : ℕ) (d o : List ℕ) where
   -- then it leaves the form
-  pub write-gives : Writable k h c d o → write k h c d o ≡ delivered (render k h (block c d true ∷ [])) o
+  pub write-gives : Writable k h c d o → write k h c d o ≡ delivered (render k (headerCapitals h) (block c d true ∷ [])) o
   unfolding write
-  write-gives w = rw (w .form, w .header, w .plain) (put-gives k h (block c d true ∷ []) o (w .within) (w .room))
+  write-gives w = rw (w .form, w .header, w .plain) (put-gives k (headerCapitals h) (block c d true ∷ []) o (w .within) (w .room))
 
   -- only then
   pub write-only-if : write k h c d o .answer .number ≡ 0 → Writable k h c d o
   unfolding write
   write-only-if z =
       passed {q = Writable k h c d o} (not (isForm k)) 15 o (lit≤ tt) (λ i. passed (not (isHeader h)) 6 o (lit≤ tt)
-      (λ e. passed (not (isPlain c && all isPlain d)) 16 o (lit≤ tt) (λ p. put-only-if k h (block c d true ∷ []) o (λ v r.
+      (λ e. passed (not (isPlain c && all isPlain d)) 16 o (lit≤ tt) (λ p. put-only-if k (headerCapitals h) (block c d true ∷ []) o (λ v r.
       record {
         form = not-false (isForm k) i;
         header = not-false (isHeader h) e;
@@ -84,18 +86,19 @@ module _ (k : ℕ) (h : List ℕ) (c : ℕ) (d o : List ℕ) where
 
 CheckedOf : List ℕ → Reading → Type 0
 CheckedOf s (refused n) = 1 ≤ n
-CheckedOf s (frame h bs) = (read s ≡ frame h bs) × (allRight bs ≡ true)
+CheckedOf s (frame h bs) = (inCapitals (read s) ≡ frame h bs) × (allRight bs ≡ true)
 
-checked-from : (s : List ℕ) (r : Reading) → read s ≡ r → CheckedOf s (checked r)
+checked-from : (s : List ℕ) (r : Reading) → inCapitals (read s) ≡ r → CheckedOf s (checked r)
 unfolding checked CheckedOf
-checked-from s (refused n) e = omega (arith, read-number s n e .least)
+checked-from s (refused n) e = omega (arith, capitals-number s n e .least)
 checked-from s (frame h bs) e = choice (CheckedOf s) (allRight bs) (λ a. (e, a)) (λ a. lit≤ tt)
 
-checked-of : (s : List ℕ) → CheckedOf s (checked (read s))
-checked-of s = checked-from s (read s) refl
+checked-of : (s : List ℕ) → CheckedOf s (checked (inCapitals (read s)))
+checked-of s = checked-from s (inCapitals (read s)) refl
 
 -- a frame that reads with right sums passes the check
-pub checked-right : (s h : List ℕ) (bs : List Block) → read s ≡ frame h bs → allRight bs ≡ true → checked (read s) ≡ frame h bs
+pub checked-right : (s h : List ℕ) (bs : List Block) → inCapitals (read s) ≡ frame h bs → allRight bs ≡ true
+    → checked (inCapitals (read s)) ≡ frame h bs
 unfolding checked
 checked-right s h bs e a = rw (e, a)
 
@@ -106,7 +109,7 @@ pub record Reformable (k : ℕ) (s o : List ℕ) : Type 0 where
   pub form : isForm k ≡ true
   pub header : List ℕ
   pub blocks : List Block
-  pub reads : read s ≡ frame header blocks
+  pub reads : inCapitals (read s) ≡ frame header blocks
   pub right : allRight blocks ≡ true
   pub within : isOver k header blocks ≡ false
   pub room : length (render k header blocks) ≤ length o
@@ -130,7 +133,7 @@ module _ (k : ℕ) (s o : List ℕ) where
   pub reform-only-if : reform k s o .answer .number ≡ 0 → Reformable k s o
   unfolding reform
   reform-only-if z =
-      passed (not (isForm k)) 15 o (lit≤ tt) (λ i. reformable (not-false (isForm k) i) (checked (read s)) (checked-of s)) .holds z
+      passed (not (isForm k)) 15 o (lit≤ tt) (λ i. reformable (not-false (isForm k) i) (checked (inCapitals (read s))) (checked-of s)) .holds z
 
 -- ---- joining
 
@@ -175,11 +178,11 @@ module _ (k : ℕ) (f g o : List ℕ) where
   unfolding join
   join-only-if z =
       passed (not (isForm k)) 15 o (lit≤ tt)
-      (λ i. joinable (not-false (isForm k) i) (checked (read f)) (checked (read g)) (checked-of f) (checked-of g)) .holds z
+      (λ i. joinable (not-false (isForm k) i) (checked (inCapitals (read f))) (checked (inCapitals (read g))) (checked-of f) (checked-of g)) .holds z
 
 -- a buffer of 24,576 bytes is always long enough
-pub join-succeeds : (k : ℕ) (f g o h : List ℕ) (bs cs : List Block) → isForm k ≡ true → read f ≡ frame h bs → read g ≡ frame h cs
-    → allRight bs ≡ true → allRight cs ≡ true → hasRead bs ≡ false → isOver k h (bs ++ cs) ≡ false → 24576 ≤ length o
+pub join-succeeds : (k : ℕ) (f g o h : List ℕ) (bs cs : List Block) → isForm k ≡ true → inCapitals (read f) ≡ frame h bs
+    → inCapitals (read g) ≡ frame h cs → allRight bs ≡ true → allRight cs ≡ true → hasRead bs ≡ false → isOver k h (bs ++ cs) ≡ false → 24576 ≤ length o
     → join k f g o .answer .number ≡ 0
 join-succeeds k f g o h bs cs i p q a b n v z =
     join-if k f g o

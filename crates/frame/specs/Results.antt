@@ -5,8 +5,10 @@ use mathlib.Core.List.{List, _++_}
 use Prim.Native.Nat.{ℕ}
 use lib.ListN.{take}
 use Rattle.octets.specs.Choice.{isByte, all}
+use Rattle.header.specs.Capitals.{noSmall}
 use Rattle.body.specs.Body.{Block, hasRead}
 use Rattle.reading.specs.Reading.{frame, read}
+use Rattle.reading.specs.Capitals.{inCapitals}
 use Rattle.forms.specs.Forms.{render}
 use Rattle.writing.specs.Output.{Output, isOver}
 use Rattle.writing.specs.Reforming.{allRight}
@@ -15,17 +17,18 @@ use Rattle.writing.specs.Reforming.{allRight}
 abbrev pub resultOf : Output → List ℕ
 resultOf x = take (x .answer .length) (x .out)
 
--- the result is a form of a header and blocks within the limits; it is bytes, and reads as these, their sums right or none
+-- the result is a form of a header in capitals and blocks within the limits; it is bytes, and reads as these, their sums right or none
 pub record Carries (form : ℕ) (h : List ℕ) (bs : List Block) (x : Output) : Type 0 where
   pub bytes : resultOf x ≡ render form h bs
+  pub capital : noSmall h ≡ true
   pub reads : read (resultOf x) ≡ frame h bs
   pub right : allRight bs ≡ true
   pub small : all isByte (resultOf x) ≡ true
   pub within : isOver form h bs ≡ false
 
--- a frame reads as a header and blocks, their sums right or none
+-- a frame reads, its header in capitals, as a header and blocks, their sums right or none
 pub record Sure (s h : List ℕ) (bs : List Block) : Type 0 where
-  pub reads : read s ≡ frame h bs
+  pub reads : inCapitals (read s) ≡ frame h bs
   pub right : allRight bs ≡ true
 
 -- the result of joining f and g: "the second frame's blocks after the first's under the common header"

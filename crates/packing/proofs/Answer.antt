@@ -5,9 +5,11 @@ use mathlib.Core.Bool.{true}
 use mathlib.Core.List.{List, _++_}
 use Rattle.octets.specs.Choice.{if_then_else_, _is_}
 use Rattle.body.specs.Body.{Block}
+use Rattle.header.specs.Capitals.{headerCapitals}
 use Rattle.reading.specs.Reading.{frame, read}
+use Rattle.reading.specs.Capitals.{inCapitals}
 use Rattle.frame.specs.Results.{Joined}
-use Rattle.frame.proofs.Delivered.{same-blocks}
+use Rattle.frame.proofs.Delivered.{capital-reads, same-blocks}
 use Rattle.frame.proofs.ReadBack.{joined-back}
 use Rattle.board.specs.declared.Settings.{Settings}
 use Rattle.sign.specs.Run.{Outcome, run}
@@ -21,8 +23,10 @@ module _ (k : ℕ) (f g j : List ℕ) (w : Joining k f g j) where
   w-joined : Joined k f g (w .left)
   w-joined = joined-back (w .left) k f g (w .before) (w .first-bytes) (w .second-bytes) (w .promise) (w .zero)
 
-  w-reads : read j ≡ frame (w-joined .header) (w-joined .first ++ w-joined .second)
-  w-reads = ap read (w .result) ∙ w-joined .result .reads
+  w-reads : inCapitals (read j) ≡ frame (w-joined .header) (w-joined .first ++ w-joined .second)
+  w-reads =
+      let p = w-joined in
+      ap (λ (l : List ℕ). inCapitals (read l)) (w .result) ∙ capital-reads k (p .header) (p .first ++ p .second) (w .left) (p .result)
 
 -- x after the first frame, y after the second on what x left, z after the joined frame: any outcomes that meet the calls' promises
 module _ (k : ℕ) (f g j : List ℕ) (w : Joining k f g j) (s : Settings) (m o : List ℕ) (x y z : Outcome) (one : x ≡ run s m o f)
@@ -69,7 +73,7 @@ module _ (k : ℕ) (f g j : List ℕ) (w : Joining k f g j) (s : Settings) (m o 
   pub packed-unless-set : (h : List ℕ) (bs : List Block) → read f ≡ frame h bs → setsNoAddress bs ≡ true → SameAsInTurn x y z
   packed-unless-set h bs r n =
       let p = w-joined k f g j w in
-      let e : bs ≡ p .first = same-blocks f h (p .header) bs (p .first) r (p .one .reads) in
+      let e : bs ≡ p .first = same-blocks f (headerCapitals h) (p .header) bs (p .first) (unfold inCapitals in ap inCapitals r) (p .one .reads) in
       from-packed
       (packing-unless-set s m o f g j (p .header) (p .first) (p .second) (w-reads k f g j w) (p .one .reads) (p .other .reads)
       (subst (λ (l : List Block). setsNoAddress l ≡ true) e n))

@@ -10,13 +10,13 @@ use borrow.Author.Tests.{lt-leb, le-leb, eq-eqb, ne-eqb}
 use lib.ListN.{length, drop, set, length-set, drop-of-length-le}
 use lib.Seq.{sets, drop-drop}
 use Rattle.octets.specs.Choice.{_is_, between, _!_}
-use Rattle.octets.specs.Hex.{isHex2, hex2}
-use Rattle.octets.specs.Carried.{isCarried2}
+use Rattle.octets.specs.Carried.{capitals, isCarried2}
 use Rattle.octets.specs.Bytes.{ESCAPE}
 use Rattle.octets.specs.Digits.{two}
 use Rattle.octets.specs.declared.hex.Two.{Two}
 use Rattle.octets.specs.declared.hex.Two.the-variants.{Value, Bad}
 use Rattle.octets.proofs.Spots.{drop-on}
+use Rattle.octets.proofs.Told.{two-none, two-some}
 use Rattle.octets.proofs.Tests.{choice, by-test, never}
 use Rattle.reading.specs.Translation.{Translation, untranslated, translated, push, translateFrom, translate}
 use Rattle.reading.specs.Places.{bytesOf}
@@ -29,33 +29,21 @@ use Rattle.reading.proofs.Translating.{translate-skip}
 
 -- ---- one byte
 
--- two digits, or none, as a choice
-two-bad : (l : List ℕ) → two l ≡ Bad → isHex2 l ≡ false
-unfolding two
-two-bad l e = by-test (isHex2 l) (λ t. let z : _≡_ {A = ℕ} 0 1 = cc (rw t at e) in absurd (omega arith)) (λ t. t)
-
-two-value : (l : List ℕ) (v : ℕ) → two l ≡ Value v → (isHex2 l ≡ true) × (hex2 l ≡ v)
-unfolding two
-two-value l v e =
-    by-test (isHex2 l)
-    (λ t. (t, cc (rw t at e)))
-    (λ t. let z : _≡_ {A = ℕ} 0 1 = cc (rw t at e) in absurd (omega arith))
-
 module _ (s : List ℕ) (i : ℕ) (h : i < length s) where
   here : charAt s i ≡ charIn i (s ! i ∷ drop (i + 1) s)
   unfolding charAt
   here = rw (drop-on s i h)
 
   module _ (x : ℕ) (e : x ≡ s ! i) where
-    module _ (d : x ≡ ESCAPE) (r : Two) (f : r ≡ two (drop (i + 1) s)) where
+    module _ (d : x ≡ ESCAPE) (r : Two) (f : r ≡ two (capitals (drop (i + 1) s))) where
       pub char-bad : r ≡ Bad → Faulty ≡ charAt s i
       unfolding charIn
-      char-bad g = rw (here, ← e, eq-eqb x ESCAPE d, two-bad (drop (i + 1) s) (sym f ∙ g))
+      char-bad g = rw (here, ← e, eq-eqb x ESCAPE d, two-none (capitals (drop (i + 1) s)) (sym f ∙ g))
 
       pub char-escaped : (v : ℕ) → r ≡ Value v → Stands v (i + 3) ≡ charAt s i
       unfolding charIn
       char-escaped v g =
-          let w = two-value (drop (i + 1) s) v (sym f ∙ g) in
+          let w = two-some (capitals (drop (i + 1) s)) v (sym f ∙ g) in
           rw (here, ← e, eq-eqb x ESCAPE d, w .0, w .1)
 
     module _ (d : x ≡ ESCAPE → ⊥) where

@@ -7,8 +7,8 @@ use native.Mathlib.Omega.{arith}
 use lib.ListN.{length}
 use borrow.Author.Tests.{ltb-true, leb-true, lt-ltb, not-false}
 use Rattle.octets.specs.Choice.{_is_, _isn't_, _<?_, _≤?_, between, isByte, _!_, none, front, behind, all}
-use Rattle.octets.specs.Hex.{value, isHex2, hex2}
-use Rattle.octets.specs.Carried.{isCarried, isCarried2, carried2}
+use Rattle.octets.specs.Hex.{value, isHex, isHex2, hex2}
+use Rattle.octets.specs.Carried.{capitals, isCarried2, carried2}
 use Rattle.octets.specs.Bytes.{NUL, SOH, ESCAPE, STANDARD, PRINTABLE, TRANSLATED, BLOCKS, isNul}
 use Rattle.octets.proofs.Tests.{choice, split}
 use Rattle.octets.proofs.Lists.{all-cons, all-drop, behind-keeps}
@@ -122,10 +122,11 @@ push-of r x (translated t) a g = all-cons r x t a g
 escaped-byte : (s : List ℕ) → isCarried2 s ≡ true → isByte (carried2 s) ≡ true
 unfolding isHex2 hex2 isByte
 escaped-byte s e =
-    let p = split (isCarried (s ! 0)) e in
-    let a : value (s ! 0) < 16 = ltb-true (value (s ! 0)) 16 (p .0) in
-    let b : value (s ! 1) < 16 = ltb-true (value (s ! 1)) 16 (p .1) in
-    lt-ltb (value (s ! 0) * 16 + value (s ! 1)) 256 (omega arith)
+    let l : List ℕ = capitals s in
+    let p = split (isHex (l ! 0)) e in
+    let a : value (l ! 0) < 16 = ltb-true (value (l ! 0)) 16 (p .0) in
+    let b : value (l ! 1) < 16 = ltb-true (value (l ! 1)) 16 (p .1) in
+    lt-ltb (value (l ! 0) * 16 + value (l ! 1)) 256 (omega arith)
 
 itself-byte : (x : ℕ) → between 0x20 0x7E x ≡ true → isByte x ≡ true
 unfolding isByte

@@ -1,5 +1,6 @@
 -- Laws of the definitions.
 pub mod FrameLaws
+pub mod InCapitals
 pub mod Translating
 pub mod Leads
 pub mod Chars

@@ -2,5 +2,6 @@
 pub mod Translation
 pub mod Lead
 pub mod Reading
+pub mod Capitals
 pub mod Places
 pub mod Walking

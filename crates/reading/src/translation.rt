@@ -3,7 +3,7 @@ use octets::bytes::ESCAPE;
 use octets::bytes::FIRST_PRINTABLE;
 use octets::bytes::LAST_PRINTABLE;
 use octets::hex::Two;
-use octets::hex::two_at;
+use octets::hex::carried_two_at;
 use octets::slices::put_at;
 ghost use mathlib.Core.Path.{_≡_};
 ghost use mathlib.Core.Bool.{true};
@@ -33,7 +33,7 @@ fn char_at(s: &[u8], i: usize) -> Char
 {
     let x = s[i];
     if x == ESCAPE {
-        return match two_at(s, i + 1) {
+        return match carried_two_at(s, i + 1) {
             Two::Bad => Char::Faulty,
             Two::Value(byte) => Char::Stands { byte, next: i + 3 },
         };

@@ -20,13 +20,15 @@ use Rattle.board.proofs.Layouts.{layout, AllValid, parse, layout-unused, holds,
 use Rattle.board.proofs.Contents.{zeros-nul, zeros-content}
 use Rattle.board.proofs.SoundParts.{memory-most, whole}
 use Rattle.board.proofs.Indexing.{index-true}
-use Rattle.records.specs.Records.{isRecords, recordsIn, labelsIn, needed, neededBy, sizeIn, stored, laid}
+use Rattle.records.specs.Capitals.{recordCapitals}
+use Rattle.records.specs.Records.{isListed, listedSize, isRecords, recordsIn, labelsIn, needed, neededBy, sizeIn, withSize, stored, laid}
+use Rattle.records.proofs.InCapitals.{listed-long, listed-start}
 
 -- ---- n records, as they have to be
 
 abbrev pub Records : ℕ → List ℕ → Type 0
 Records zero d = length d ≡ 0
-Records (suc n) d = (11 ≤ length d) × (isRecord (length d is 11) d ≡ true) × Records n (drop 11 d)
+Records (suc n) d = (11 ≤ length d) × (isListed (length d is 11) d ≡ true) × Records n (drop 11 d)
 
 pub records-of : (n : ℕ) (d : List ℕ) → isRecords n d ≡ true → (recordsIn d ≤ n) × Records (recordsIn d) d
 unfolding isRecords
@@ -36,7 +38,7 @@ records-of (suc n) [] e = (omega arith, refl)
 records-of (suc n) (x ∷ l) e =
     let d = x ∷ l in
     let a = split (11 ≤? length d) e in
-    let b = split (isRecord (length d is 11) d) (a .1) in
+    let b = split (isListed (length d is 11) d) (a .1) in
     let h : 11 ≤ length d = leb-true 11 (length d) (a .0) in
     let r = records-of n (drop 11 d) (b .1) in
     let z : suc (recordsIn (drop 11 d)) ≡ recordsIn d = rw (length-drop 11 d) (omega arith) in
@@ -75,41 +77,42 @@ sized-none z t e = go (t is STRING) z e
 
 -- ---- the record that is stored
 
+-- a record with a size
 module _ (d : List ℕ) (e : 11 ≤ length d) (v : ℕ) where
-  pub stored-length : length (stored v d) ≡ 11
-  unfolding stored inHex4
-  stored-length = eleven (λ l. length (stored v l) ≡ 11) (λ a b c d e f g h i j k l. refl) d e
+  sized-length : length (withSize v d) ≡ 11
+  unfolding withSize inHex4
+  sized-length = eleven (λ l. length (withSize v l) ≡ 11) (λ a b c d e f g h i j k l. refl) d e
 
-  stored-start : (stored v d ! 0 ≡ d ! 0) × (stored v d ! 1 ≡ d ! 1) × (stored v d ! 2 ≡ d ! 2)
-  unfolding stored inHex4
-  stored-start =
-      eleven (λ l. (stored v l ! 0 ≡ l ! 0) × (stored v l ! 1 ≡ l ! 1) × (stored v l ! 2 ≡ l ! 2))
+  sized-start : (withSize v d ! 0 ≡ d ! 0) × (withSize v d ! 1 ≡ d ! 1) × (withSize v d ! 2 ≡ d ! 2)
+  unfolding withSize inHex4
+  sized-start =
+      eleven (λ l. (withSize v l ! 0 ≡ l ! 0) × (withSize v l ! 1 ≡ l ! 1) × (withSize v l ! 2 ≡ l ! 2))
       (λ a b c d e f g h i j k l. (refl, refl, refl)) d e
 
-  stored-codes : isCodes (stored v d) ≡ isCodes d
-  unfolding stored inHex4 isCodes isStartCode isStopCode isHex2 hex2
-  stored-codes = eleven (λ l. isCodes (stored v l) ≡ isCodes l) (λ a b c d e f g h i j k l. refl) d e
+  sized-codes : isCodes (withSize v d) ≡ isCodes d
+  unfolding withSize inHex4 isCodes isStartCode isStopCode isHex2 hex2
+  sized-codes = eleven (λ l. isCodes (withSize v l) ≡ isCodes l) (λ a b c d e f g h i j k l. refl) d e
 
-  stored-digits : drop 3 (stored v d) ≡ inHex4 v ++ take 4 (drop 7 d)
-  unfolding stored inHex4
-  stored-digits = eleven (λ l. drop 3 (stored v l) ≡ inHex4 v ++ take 4 (drop 7 l)) (λ a b c d e f g h i j k l. refl) d e
+  sized-digits : drop 3 (withSize v d) ≡ inHex4 v ++ take 4 (drop 7 d)
+  unfolding withSize inHex4
+  sized-digits = eleven (λ l. drop 3 (withSize v l) ≡ inHex4 v ++ take 4 (drop 7 l)) (λ a b c d e f g h i j k l. refl) d e
 
   module _ (h : v < 65536) where
-    stored-size : sizeOf (stored v d) ≡ v
+    sized-size : sizeOf (withSize v d) ≡ v
     unfolding sizeOf
-    stored-size = ap hex4 stored-digits ∙ hex4-inHex4 v h (take 4 (drop 7 d))
+    sized-size = ap hex4 sized-digits ∙ hex4-inHex4 v h (take 4 (drop 7 d))
 
-    stored-record : (z : Bool) → isRecord z d ≡ true → isSized false (d ! 1) v ≡ true → isRecord false (stored v d) ≡ true
+    sized-record : (z : Bool) → isRecord z d ≡ true → isSized false (d ! 1) v ≡ true → isRecord false (withSize v d) ≡ true
     unfolding isRecord isSize
-    stored-record z r g =
+    sized-record z r g =
         let p = record-parts z d r in
         rw (
-          stored-start .0,
-          stored-start .1,
-          stored-start .2,
-          stored-codes,
-          stored-size,
-          stored-digits,
+          sized-start .0,
+          sized-start .1,
+          sized-start .2,
+          sized-codes,
+          sized-size,
+          sized-digits,
           isHex4-inHex4 v h (take 4 (drop 7 d)),
           p .0,
           p .1,
@@ -117,6 +120,25 @@ module _ (d : List ℕ) (e : 11 ≤ length d) (v : ℕ) where
           p .4,
           g,
         )
+
+-- the one that a list's record becomes
+module _ (d : List ℕ) (e : 11 ≤ length d) (v : ℕ) where
+  listed-most : 11 ≤ length (recordCapitals d)
+  listed-most = omega (arith, listed-long d e)
+
+  pub stored-length : length (stored v d) ≡ 11
+  stored-length = sized-length (recordCapitals d) listed-most v
+
+  -- its label is the list's
+  stored-label : stored v d ! 0 ≡ d ! 0
+  stored-label = sized-start (recordCapitals d) listed-most v .0 ∙ listed-start d e .0
+
+  module _ (h : v < 65536) where
+    stored-size : sizeOf (stored v d) ≡ v
+    stored-size = sized-size (recordCapitals d) listed-most v h
+
+    stored-record : (z : Bool) → isListed z d ≡ true → isSized false (d ! 1) v ≡ true → isRecord false (stored v d) ≡ true
+    stored-record z r g = sized-record (recordCapitals d) listed-most v h z r (rw (listed-start d e .1) g)
 
 -- ---- the size that a record gets, and the room that it leaves
 
@@ -131,14 +153,14 @@ none-left (suc n) d e r = absurd (omega arith)
 
 pub gets : (n room : ℕ) (d : List ℕ) → Records (suc n) d → needed (suc n) d ≤ room → Gets n room d
 unfolding needed neededBy sizeIn
-gets n room d r h = by-test (sizeOf d is 0) all-of-it as-listed
+gets n room d r h = by-test (listedSize d is 0) all-of-it as-listed
   where
-    part : isSized (length d is 11) (d ! 1) (sizeOf d) ≡ true
-    part = record-parts (length d is 11) d (r .1) .3
+    part : isSized (length d is 11) (d ! 1) (listedSize d) ≡ true
+    part = rw (listed-start d (r .0) .1) at (record-parts (length d is 11) (recordCapitals d) (r .1) .3)
 
-    all-of-it : (sizeOf d is 0) ≡ true → Gets n room d
+    all-of-it : (listedSize d is 0) ≡ true → Gets n room d
     all-of-it q =
-        let t = sized-none (length d is 11) (d ! 1) (rw (eqb-true (sizeOf d) 0 q) at part) in
+        let t = sized-none (length d is 11) (d ! 1) (rw (eqb-true (listedSize d) 0 q) at part) in
         let l : length d ≡ 11 = eqb-true (length d) 11 (t .1) in
         let n₀ : n ≡ 0 = none-left n (drop 11 d) (rw (length-drop 11 d) (omega arith)) (r .2) in
         let k : 11 + 1 + needed n (drop 11 d) ≤ room = rw q at h in
@@ -148,13 +170,13 @@ gets n room d r h = by-test (sizeOf d is 0) all-of-it as-listed
           more = simp (q, n₀) (omega arith);
         }
 
-    as-listed : (sizeOf d is 0) ≡ false → Gets n room d
+    as-listed : (listedSize d is 0) ≡ false → Gets n room d
     as-listed q =
-        let k : 11 + sizeOf d + needed n (drop 11 d) ≤ room = rw q at h in
-        let ne : (sizeOf d ≡ 0 → ⊥) = eqb-false (sizeOf d) 0 q in
-        let one : 1 ≤ sizeOf d = omega arith in
+        let k : 11 + listedSize d + needed n (drop 11 d) ≤ room = rw q at h in
+        let ne : (listedSize d ≡ 0 → ⊥) = eqb-false (listedSize d) 0 q in
+        let one : 1 ≤ listedSize d = omega arith in
         record {
-          fit = simp q (sized-some (length d is 11) (d ! 1) (sizeOf d) one part);
+          fit = simp q (sized-some (length d is 11) (d ! 1) (listedSize d) one part);
           inside = simp q (omega arith);
           more = simp q (omega arith);
         }
@@ -201,7 +223,7 @@ unfolding newOf labels labelsIn
 new-labels zero room d r = refl
 new-labels (suc n) room d r =
     let v = sizeIn room d in
-    ap₂ _∷_ (stored-start d (r .0) v .0) (new-labels n (room - (11 + v)) (drop 11 d) (r .2))
+    ap₂ _∷_ (stored-label d (r .0) v) (new-labels n (room - (11 + v)) (drop 11 d) (r .2))
 
 new-length : (n room : ℕ) (d : List ℕ) → Records n d → needed n d ≤ room → length (laid n room d) ≡ room
 unfolding laid
@@ -233,7 +255,7 @@ new-placed (suc n) room d r place p =
     let v = sizeIn room d in
     let fs = newOf n (room - (11 + v)) (drop 11 d) in
     new-placed n (room - (11 + v)) (drop 11 d) (r .2) (place + 11 + v) (set p (d ! 0 - FIRST-LABEL) place)
-    ∙ ap₂ (λ (k l : ℕ). entered fs (place + 11 + k) (set p (l - FIRST-LABEL) place)) (sym (length-zeros v)) (sym (stored-start d (r .0) v .0))
+    ∙ ap₂ (λ (k l : ℕ). entered fs (place + 11 + k) (set p (l - FIRST-LABEL) place)) (sym (length-zeros v)) (sym (stored-label d (r .0) v))
 
 -- that is the index of the new memory
 pub room-index : (n room : ℕ) (d : List ℕ) → Records n d → needed n d ≤ room → room ≤ 32768 → placedIn n room d 0 noEntries ≡ indexOf n (laid n room d)

@@ -1,5 +1,6 @@
 // "a list of 0 to 64 records": whether it is refused, and the files that it makes.
 use crate::Kept;
+use crate::capitals::record_capitals;
 use crate::labels::labels_distinct;
 use crate::numbers::BAD_RECORD;
 use crate::numbers::LABEL_TWICE;
@@ -19,7 +20,7 @@ ghost use mathlib.Core.Bool.{true};
 ghost use Prim.Native.Nat.{_+_, _*_, _≤_};
 ghost use lib.ListN.{length, drop};
 ghost use Rattle.octets.specs.Buffer.{splice};
-ghost use Rattle.records.specs.Records.{isRecords, needed, neededBy, refusal, sizeIn, stored};
+ghost use Rattle.records.specs.Records.{listedSize, isRecords, needed, neededBy, refusal, sizeIn, stored};
 ghost use Rattle.records.specs.Filing.{startsRecord, emptyFile, Spot, Listed, Laid};
 
 // Whether a record of the list stands at a place; "SIZE 0000 is allowed only in a last TEXT record".
@@ -31,7 +32,8 @@ fn starts_record(d: &[u8], at: usize) -> bool
     if rest < RECORD {
         return false;
     }
-    is_record(d, at, rest == RECORD)
+    let head = record_capitals(d, at);
+    is_record(&head, 0, rest == RECORD)
 }
 
 // Whether the data are 0 to 64 records.
@@ -53,12 +55,21 @@ fn is_records(d: &[u8]) -> bool
     at == d.len()
 }
 
+// The SIZE of the record at a place of the list.
+fn listed_size(d: &[u8], at: usize) -> usize
+    requires { ⌜ at + 11 ≤ length (now d) ⌝ }
+    ensures { λ r. ⌜ r ≡ listedSize (drop at (now (d .entry))) ⌝ }
+{
+    let head = record_capitals(d, at);
+    size_at(&head, 0)
+}
+
 // What a record takes: "Sizes plus 11 for each"; SIZE 0000 "at least 1".
 fn needed_by(d: &[u8], at: usize) -> usize
-    requires { ⌜ at ≤ length (now d) ⌝ }
+    requires { ⌜ at + 11 ≤ length (now d) ⌝ }
     ensures { λ r. ⌜ r ≡ neededBy (drop at (now (d .entry))) ⌝ }
 {
-    let size = size_at(d, at);
+    let size = listed_size(d, at);
     if size == 0 { RECORD + 1 } else { RECORD + size }
 }
 
@@ -80,19 +91,20 @@ fn needed(d: &[u8], n: usize) -> usize
 
 // The size that a record gets: 0000 "takes what remains after its own 11 bytes".
 fn size_in(room: usize, d: &[u8], at: usize) -> usize
-    requires { ⌜ (at ≤ length (now d)) × (11 ≤ room) ⌝ }
+    requires { ⌜ (at + 11 ≤ length (now d)) × (11 ≤ room) ⌝ }
     ensures { λ r. ⌜ r ≡ sizeIn room (drop at (now (d .entry))) ⌝ }
 {
-    let size = size_at(d, at);
+    let size = listed_size(d, at);
     if size == 0 { room - RECORD } else { size }
 }
 
-// "the record is stored with that size"
+// "the record is stored with that size", in capitals.
 fn store(m: &mut [u8], place: usize, size: u16, head: &[u8])
     requires { ⌜ (place + 11 ≤ length (now m)) × (length (now head) ≡ 11) ⌝ }
     ensures { λ r. ⌜ now (m .exit) ≡ splice (now (m .entry)) place (stored size (now (head .entry))) ⌝ }
 {
-    copy_at(m, place, head);
+    let capitals = record_capitals(head, 0);
+    copy_at(m, place, &capitals);
     put_four(m, place + SIZE, size);
 }
 

@@ -9,7 +9,8 @@ use Rattle.board.specs.Soundness.{isLabel, isKind, isProtection, isSize, isStar
 use Rattle.effects.specs.Reply.{replyOf}
 use Rattle.effects.specs.Recording.{faultNoted}
 use Rattle.commands.specs.Commands.{holding, putMessage, writeFile, getContent, readFile}
-use Rattle.records.specs.Records.{isRecords, labelsIn, neededBy, needed, refusal, sizeIn, stored, laid}
+use Rattle.records.specs.Capitals.{recordCapitals}
+use Rattle.records.specs.Records.{isRecords, labelsIn, neededBy, needed, refusal, sizeIn, withSize, laid}
 use Rattle.special.specs.Configuration.{configure}
 use Rattle.special.specs.Special.{setTime, setSpeaker, setFormat, setDate, setAddress, setOffset, clearErrors, setBy, writeSpecial, tellTime, tellDate, tellSpeaker, tellPool, isTold, tell, afterTold, readSpecial}
 use Rattle.commands.specs.Blocks.{command, doBlock, runBlock}
@@ -31,7 +32,7 @@ unfolding
     isLabel isKind isProtection isSize isStartCode isStopCode isCodes isRecord isContent isFileAt holdsFiles soundMemory keepsTrue sound
     replyOf faultNoted
     holding putMessage writeFile getContent readFile
-    isRecords labelsIn neededBy needed refusal sizeIn stored laid configure
+    recordCapitals isRecords labelsIn neededBy needed refusal sizeIn withSize laid configure
     setTime setSpeaker setFormat setDate setAddress setOffset clearErrors setBy writeSpecial
     tellTime tellDate tellSpeaker tellPool isTold tell afterTold readSpecial
     command doBlock runBlock

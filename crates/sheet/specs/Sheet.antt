@@ -86,7 +86,7 @@ table =
     ∷ reaches 0x00 "_01Z00_02E'S_04" 0
     ∷ reaches 0x00 "_01Z0?_02E'S_04" 9
     ∷ reaches 0x00 "_01Z??_02E'S_04" 9
-    -- `_01Z00_02AAHELLO_04` does what Table 34's frame does. `_0a` is 5.
+    -- `_01Z00_02AAHELLO_04` does what Table 34's frame does. `_0a` is 5: since request 4 it "becomes a good escape", and the lead is wrong.
     ∷ alike "_01Z00_02AAHELLO_04" "\0\0\0\0\0\u{1}Z00\u{2}AAHELLO\u{4}"
-    ∷ numbers 64 ("_0a" ∷ []) 5
+    ∷ numbers 64 ("_0a" ∷ []) 4
     ∷ []

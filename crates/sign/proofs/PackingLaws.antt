@@ -10,17 +10,19 @@ use Rattle.octets.specs.Choice.{if_then_else_, _is_, _<?_}
 use Rattle.octets.proofs.Tests.{by-test, or-out-left, or-out-right}
 use Rattle.header.specs.Addressing.{addressed}
 use Rattle.body.specs.Body.{Block, isRead, readNotLast}
-use Rattle.reading.specs.Reading.{frame, read}
-use Rattle.reading.proofs.FrameLaws.{read-plain}
+use Rattle.reading.specs.Reading.{Reading, refused, frame, read}
+use Rattle.reading.specs.Capitals.{inCapitals}
+use Rattle.reading.proofs.InCapitals.{capitals-plain}
 use Rattle.board.specs.Soundness.{sound}
 use Rattle.board.specs.declared.Settings.{Settings}
 use Rattle.effects.specs.Effects.{board}
 use Rattle.sign.specs.Run.{nothing, State, state, runBlocks, Outcome, untouched, ran, runFrame, run}
 use Rattle.sign.specs.Packing.{setsNoAddress, next}
 use Rattle.sign.specs.declared.Tally.{Tally}
+use Rattle.sign.proofs.Alike.{run-capitals}
 use Rattle.sign.proofs.Adding.{plus, together, Packed}
 use Rattle.sign.proofs.RunLaws.{upon, counts-join, none-zero}
-use Rattle.sign.proofs.Steady.{NoReads, run-passed, run-steady, run-unsound}
+use Rattle.sign.proofs.Steady.{NoReads, SetsNone, run-passed, run-steady, run-unsound}
 
 -- ---- a read is only the last block: so there is none before others
 
@@ -44,19 +46,28 @@ module _ (s : Settings) (m o f : List ℕ) where
     unfolding run
     run-short g = rw (e, g)
 
-    module _ (g : (length o <? length m + 64) ≡ false) (h : List ℕ) (ks : List Block) (r : read f ≡ frame h ks) where
+    module _ (g : (length o <? length m + 64) ≡ false) (h : List ℕ) (ks : List Block) (r : inCapitals (read f) ≡ frame h ks) where
+      run-read : run s m o f ≡ runFrame s m o (frame h ks)
+      unfolding run
+      run-read = rw (e, g) (sym (run-capitals s m o (read f)) ∙ ap (runFrame s m o) r)
+
       run-away : addressed (s .own) (s .address) h ≡ false → run s m o f ≡ untouched 9 s m o
-      unfolding run runFrame
-      run-away a = rw (e, g, r, a)
+      unfolding runFrame
+      run-away a = run-read ∙ rw a
 
       run-here : addressed (s .own) (s .address) h ≡ true → run s m o f ≡ ran (runBlocks (state (board s m) o nothing) ks)
-      unfolding run runFrame
-      run-here a = rw (e, g, r, a)
+      unfolding runFrame
+      run-here a = run-read ∙ rw a
 
--- ---- the theorems: three frames of which the one reads as the two others joined
+-- ---- the theorems: three frames of which the one reads as the two others joined, their headers in capitals
+
+sets-none : (r : Reading) → SetsNone (inCapitals r) → SetsNone r
+unfolding inCapitals
+sets-none (refused n) e = e
+sets-none (frame h bs) e = e
 
 module _ (s : Settings) (m o f g j h : List ℕ) (bs cs : List Block)
-    (rj : read j ≡ frame h (bs ++ cs)) (rf : read f ≡ frame h bs) (rg : read g ≡ frame h cs)
+    (rj : inCapitals (read j) ≡ frame h (bs ++ cs)) (rf : inCapitals (read f) ≡ frame h bs) (rg : inCapitals (read g) ≡ frame h cs)
   where
     -- where all three are refused with one number
     alike : (n : ℕ) → run s m o j ≡ untouched n s m o → run s m o f ≡ untouched n s m o → run s m o g ≡ untouched n s m o →
@@ -82,7 +93,7 @@ module _ (s : Settings) (m o f g j h : List ℕ) (bs cs : List Block)
       unfolding start first
       quiet =
           run-passed bs start .quiet
-          (none-before false bs cs (read-plain g h cs rg .blocks .some) (read-plain j h (bs ++ cs) rj .reads))
+          (none-before false bs cs (capitals-plain g h cs rg .blocks .some) (capitals-plain j h (bs ++ cs) rj .reads))
 
       ran-first : run s m o f ≡ ran first
       unfolding start first
@@ -95,7 +106,7 @@ module _ (s : Settings) (m o f g j h : List ℕ) (bs cs : List Block)
           let adr : first .now .settings .address ≡ s .address =
           sym (ap (λ (x : Outcome). x .answer .settings .address) ran-first) ∙ still in
           ap (λ (x : Outcome). next x g) ran-first
-          ∙ run-here (first .now .settings) (first .now .memory) (first .buffer) g (p .sound (read-plain f h bs rf .blocks .plain) e)
+          ∙ run-here (first .now .settings) (first .now .memory) (first .buffer) g (p .sound (capitals-plain f h bs rf .blocks .plain) e)
           (rw (quiet .0, p .memory) l) h cs rg (rw (p .own, adr) a)
 
       ran-both : run s m o j ≡ ran (upon (first .counts) later)
@@ -130,7 +141,7 @@ module _ (s : Settings) (m o f g j h : List ℕ) (bs cs : List Block)
 
     -- so if no block of the first frame sets the address
     pub packing-unless-set : setsNoAddress bs ≡ true → Packed s m o f g j
-    packing-unless-set n = packing (run-steady s m o f .address (rw rf n))
+    packing-unless-set n = packing (run-steady s m o f .address (sets-none (read f) (rw rf n)))
 
 -- ---- what the one equation says of each part
 

@@ -15,6 +15,7 @@ use borrow.Author.Tests.{eq-eqb, ne-eqb, not-true, not-false}
 use Rattle.octets.specs.Choice.{_is_, _≤?_, _!_, all, same}
 use Rattle.octets.specs.Bytes.{ZERO, F}
 use Rattle.octets.specs.Decimal.{isDecimal, decimal2}
+use Rattle.octets.specs.Carried.{capitals}
 use Rattle.octets.specs.Digits.{two}
 use Rattle.octets.specs.declared.hex.Two.{Two}
 use Rattle.octets.specs.declared.hex.Two.the-variants.{Value, Bad}
@@ -147,14 +148,14 @@ module _ (s : Settings) (d : List ℕ) where
   unfolding setAddress
   address-length n = rw (ne-eqb (length d) 2 n)
 
-  module _ (l : length d ≡ 2) (x : Two) (e : x ≡ two d) where
+  module _ (l : length d ≡ 2) (x : Two) (e : x ≡ two (capitals d)) where
     pub address-letters : x ≡ Bad → malformed s ≡ setAddress s d
     unfolding setAddress
-    address-letters h = rw (eq-eqb (length d) 2 l, two-none d (sym e ∙ h))
+    address-letters h = rw (eq-eqb (length d) 2 l, two-none (capitals d) (sym e ∙ h))
 
     pub address-right : (v : ℕ) → x ≡ Value v → (r : Settings) → r ≡ withAddress s v → to r ≡ setAddress s d
     unfolding setAddress
-    address-right v h r g = let w = two-some d v (sym e ∙ h) in rw (eq-eqb (length d) 2 l, w .0, w .1, g)
+    address-right v h r g = let w = two-some (capitals d) v (sym e ∙ h) in rw (eq-eqb (length d) 2 l, w .0, w .1, g)
 
 pub ruleset addressing = (answered, address-length, address-letters, address-right, needs)
 

@@ -24,7 +24,7 @@ use octets::bytes::E;
 use octets::bytes::F;
 use octets::bytes::ZERO;
 use octets::hex::Two;
-use octets::hex::two_at;
+use octets::hex::carried_two_at;
 use octets::slices::same;
 use temperature::offset::is_signed_digit;
 use temperature::offset::signed_digit;
@@ -137,7 +137,7 @@ fn set_address(s: Settings, d: &[u8]) -> Done
     if d.len() != 2 {
         return quiet(s, MALFORMED);
     }
-    match two_at(d, 0) {
+    match carried_two_at(d, 0) {
         Two::Bad => quiet(s, MALFORMED),
         Two::Value(address) => quiet(s.with_address(address), 0),
     }

@@ -7,9 +7,11 @@ use borrow.Author.Needs.{needs}
 use borrow.Author.Tests.{not-true, not-false}
 use lib.ListN.{take}
 use Rattle.octets.specs.Choice.{same}
+use Rattle.header.specs.Capitals.{headerCapitals}
 use Rattle.body.specs.Body.{Block, hasRead}
 use Rattle.body.specs.Walking.{part, bodyAt, blocksAt}
 use Rattle.reading.specs.Reading.{frame, read}
+use Rattle.reading.specs.Capitals.{inCapitals}
 use Rattle.reading.specs.Places.{Reads}
 use Rattle.reading.specs.declared.Read.{Read}
 use Rattle.reading.specs.declared.Read.the-variants.{Refused, Standard, Printable}
@@ -63,25 +65,25 @@ pub ruleset joining = (parted-good, parted-pair, join-differ, join-reads, join-c
 -- ---- the first frame is read
 
 module _ (form : ℕ) (h : List ℕ) (bs : List Block) (second o : List ℕ) (t : Bool) (e : t ≡ allRight bs) where
-  pub join-first-wrong : not t ≡ true → (r : Written) → r ≡ writtenAs 17 0 → output r o ≡ putJoined form (checked (frame h bs)) (checked (read second)) o
+  pub join-first-wrong : not t ≡ true → (r : Written) → r ≡ writtenAs 17 0 → output r o ≡ putJoined form (checked (frame h bs)) (checked (inCapitals (read second))) o
   unfolding putJoined checked
   join-first-wrong f r w = rw (w, ← e, not-true t f)
 
   module _ (f : not t ≡ false) {room after : List ℕ} {answer : Read} (g : Reads second room answer after) where
     pub second-refused : {n : ℕ} → answer ≡ Refused n → (r : Written) → r ≡ writtenAs n 0
-        → output r o ≡ putJoined form (checked (frame h bs)) (checked (read second)) o
-    unfolding putJoined checked
+        → output r o ≡ putJoined form (checked (frame h bs)) (checked (inCapitals (read second))) o
+    unfolding putJoined checked inCapitals
     second-refused k r w = rw (w, ← e, not-false t f, reads-refused g k)
 
     pub second-standard : {i j : ℕ} → answer ≡ Standard i j → (r : Written) (o₁ : List ℕ)
-        → output r o₁ ≡ putJoined form (frame h bs) (checked (frame (part i j second) (blocksAt second j))) o
-        → output r o₁ ≡ putJoined form (checked (frame h bs)) (checked (read second)) o
+        → output r o₁ ≡ putJoined form (frame h bs) (checked (frame (headerCapitals (part i j second)) (blocksAt second j))) o
+        → output r o₁ ≡ putJoined form (checked (frame h bs)) (checked (inCapitals (read second))) o
     unfolding checked
     second-standard k r o₁ w = w ∙ rw (← e, not-false t f, standard-frame g k)
 
     pub second-printable : {n i j : ℕ} → answer ≡ Printable n i j → (r : Written) (o₁ : List ℕ)
-        → output r o₁ ≡ putJoined form (frame h bs) (checked (frame (part i j (take n after)) (blocksAt (take n after) j))) o
-        → output r o₁ ≡ putJoined form (checked (frame h bs)) (checked (read second)) o
+        → output r o₁ ≡ putJoined form (frame h bs) (checked (frame (headerCapitals (part i j (take n after))) (blocksAt (take n after) j))) o
+        → output r o₁ ≡ putJoined form (checked (frame h bs)) (checked (inCapitals (read second))) o
     unfolding checked
     second-printable k r o₁ w = w ∙ rw (← e, not-false t f, printable-frame g k)
 
@@ -96,17 +98,17 @@ module _ (form : ℕ) (first second o : List ℕ) (t : Bool) (e : t ≡ isForm f
 
   module _ (f : not t ≡ false) {room after : List ℕ} {answer : Read} (g : Reads first room answer after) where
     pub first-refused : {n : ℕ} → answer ≡ Refused n → (r : Written) → r ≡ writtenAs n 0 → output r o ≡ join form first second o
-    unfolding join checked putJoined
+    unfolding join checked putJoined inCapitals
     first-refused k r w = rw (w, ← e, f, reads-refused g k)
 
     pub first-standard : {i j : ℕ} → answer ≡ Standard i j → (r : Written) (o₁ : List ℕ)
-        → output r o₁ ≡ putJoined form (checked (frame (part i j first) (blocksAt first j))) (checked (read second)) o
+        → output r o₁ ≡ putJoined form (checked (frame (headerCapitals (part i j first)) (blocksAt first j))) (checked (inCapitals (read second))) o
         → output r o₁ ≡ join form first second o
     unfolding join
     first-standard k r o₁ w = w ∙ rw (← e, f, standard-frame g k)
 
     pub first-printable : {n i j : ℕ} → answer ≡ Printable n i j → (r : Written) (o₁ : List ℕ)
-        → output r o₁ ≡ putJoined form (checked (frame (part i j (take n after)) (blocksAt (take n after) j))) (checked (read second)) o
+        → output r o₁ ≡ putJoined form (checked (frame (headerCapitals (part i j (take n after))) (blocksAt (take n after) j))) (checked (inCapitals (read second))) o
         → output r o₁ ≡ join form first second o
     unfolding join
     first-printable k r o₁ w = w ∙ rw (← e, f, printable-frame g k)

@@ -1,5 +1,5 @@
 -- Re-forming, number by number.
-use mathlib.Core.Path.{_≡_, _∙_}
+use mathlib.Core.Path.{_≡_, ap, _∙_}
 use mathlib.Core.Bool.{Bool, true, false, not}
 use mathlib.Core.List.{List}
 use Prim.Native.Nat.{ℕ}
@@ -7,9 +7,11 @@ use native.Mathlib.Omega.{arith}
 use borrow.Author.Needs.{needs}
 use borrow.Author.Tests.{not-true, not-false}
 use lib.ListN.{take}
+use Rattle.header.specs.Capitals.{headerCapitals}
 use Rattle.body.specs.Body.{Block}
 use Rattle.body.specs.Walking.{part, blocksAt}
 use Rattle.reading.specs.Reading.{Reading, frame, read}
+use Rattle.reading.specs.Capitals.{inCapitals}
 use Rattle.reading.specs.Places.{Reads}
 use Rattle.reading.specs.declared.Read.{Read}
 use Rattle.reading.specs.declared.Read.the-variants.{Refused, Standard, Printable}
@@ -31,15 +33,17 @@ module _ {s room after : List ℕ} {answer : Read} (g : Reads s room answer afte
   pub standard-parted : {i j : ℕ} → answer ≡ Standard i j → Parted s i j
   standard-parted e = stands-parted (reads-standard g e)
 
-  pub standard-frame : {i j : ℕ} → answer ≡ Standard i j → read s ≡ frame (part i j s) (blocksAt s j)
-  standard-frame e = stands-frame (reads-standard g e)
+  pub standard-frame : {i j : ℕ} → answer ≡ Standard i j → inCapitals (read s) ≡ frame (headerCapitals (part i j s)) (blocksAt s j)
+  unfolding inCapitals
+  standard-frame e = ap inCapitals (stands-frame (reads-standard g e))
 
   module _ {n i j : ℕ} (e : answer ≡ Printable n i j) where
     pub printable-parted : Parted (take n after) i j
     printable-parted = stands-parted (reads-printable g e .stands)
 
-    pub printable-frame : read s ≡ frame (part i j (take n after)) (blocksAt (take n after) j)
-    printable-frame = stands-frame (reads-printable g e .stands)
+    pub printable-frame : inCapitals (read s) ≡ frame (headerCapitals (part i j (take n after))) (blocksAt (take n after) j)
+    unfolding inCapitals
+    printable-frame = ap inCapitals (stands-frame (reads-printable g e .stands))
 
 -- ---- re-forming
 
@@ -59,16 +63,16 @@ module _ (form : ℕ) (s o : List ℕ) (t : Bool) (e : t ≡ isForm form) where
 
   module _ (f : not t ≡ false) {room after : List ℕ} {answer : Read} (g : Reads s room answer after) where
     pub reform-refused : {n : ℕ} → answer ≡ Refused n → (r : Written) → r ≡ writtenAs n 0 → output r o ≡ reform form s o
-    unfolding reform checked putRead
+    unfolding reform checked putRead inCapitals
     reform-refused h r i = rw (i, ← e, f, reads-refused g h)
 
     pub reform-standard : {i j : ℕ} → answer ≡ Standard i j → (r : Written) (o₁ : List ℕ)
-        → output r o₁ ≡ putRead form (checked (frame (part i j s) (blocksAt s j))) o → output r o₁ ≡ reform form s o
+        → output r o₁ ≡ putRead form (checked (frame (headerCapitals (part i j s)) (blocksAt s j))) o → output r o₁ ≡ reform form s o
     unfolding reform
     reform-standard h r o₁ k = k ∙ rw (← e, f, standard-frame g h)
 
     pub reform-printable : {n i j : ℕ} → answer ≡ Printable n i j → (r : Written) (o₁ : List ℕ)
-        → output r o₁ ≡ putRead form (checked (frame (part i j (take n after)) (blocksAt (take n after) j))) o → output r o₁ ≡ reform form s o
+        → output r o₁ ≡ putRead form (checked (frame (headerCapitals (part i j (take n after))) (blocksAt (take n after) j))) o → output r o₁ ≡ reform form s o
     unfolding reform
     reform-printable h r o₁ k = k ∙ rw (← e, f, printable-frame g h)
 

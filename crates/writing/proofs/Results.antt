@@ -16,6 +16,7 @@ use Rattle.octets.specs.Choice.{_is_, _<?_}
 use Rattle.octets.specs.Buffer.{zeros, overlay}
 use Rattle.octets.specs.Bytes.{EOT, TRANSLATED}
 use Rattle.octets.proofs.Tests.{compare, by-test, never}
+use Rattle.header.specs.Capitals.{headerCapitals}
 use Rattle.body.specs.Body.{Block, block, Body, badBody, body, blocks}
 use Rattle.body.specs.Walking.{part, isBody, blocksIn, bodyAt, blocksAt}
 use Rattle.body.proofs.Taken.{anything, all-anything, Blocks, BodyOf, blocks-of}
@@ -47,7 +48,7 @@ module _ {s : List ℕ} {i from : ℕ} (g : Parted s i from) where
   part-short : length (part i from s) ≤ TRANSLATED
   part-short = simp (length-take, length-drop) (omega (arith, g .source .short))
 
-  module _ {o o₁ : List ℕ} {a : ℕ} (form : ℕ) (p : Puts o 0 (encode form (heading form (part i from s))) o₁ a) where
+  module _ {o o₁ : List ℕ} {a : ℕ} (form : ℕ) (p : Puts o 0 (encode form (heading form (headerCapitals (part i from s)))) o₁ a) where
     pub headed-ready : Puttable a s from
     headed-ready = record { source = g .source; near = omega (arith, heading-near form (part i from s) p, part-short) }
 
@@ -68,17 +69,17 @@ ended-put : {o o₁ o₂ : List ℕ} {a n : ℕ} (form : ℕ) (h : List ℕ) (bs
 ended-put form h bs e q p = puts-as (render-headed form h bs e) (joined form (headed form h bs) (EOT ∷ []) p q)
 
 pub reformed-put : {o o₁ o₂ : List ℕ} {a n : ℕ} {s : List ℕ} {i from : ℕ} → Parted s i from → (form : ℕ) → Puts o₁ a (encode form (EOT ∷ [])) o₂ n
-    → Puts o 0 (encode form (headed form (part i from s) (blocksAt s from))) o₁ a
-    → Puts o 0 (render form (part i from s) (blocksAt s from)) o₂ n
-reformed-put {s} {i} {from} g form q p = ended-put form (part i from s) (blocksAt s from) (blocks-good (g .source) .some) q p
+    → Puts o 0 (encode form (headed form (headerCapitals (part i from s)) (blocksAt s from))) o₁ a
+    → Puts o 0 (render form (headerCapitals (part i from s)) (blocksAt s from)) o₂ n
+reformed-put {s} {i} {from} g form q p = ended-put form (headerCapitals (part i from s)) (blocksAt s from) (blocks-good (g .source) .some) q p
 
 module _ {s : List ℕ} {i from : ℕ} {t : List ℕ} {place : ℕ} (g : Pair s i from t place) where
   pub both-put : {o o₁ o₂ : List ℕ} {a n : ℕ} (form : ℕ) → Puts o₁ a (encode form (pieces form false (blocksAt t place))) o₂ n
-      → Puts o 0 (encode form (headed form (part i from s) (blocksAt s from))) o₁ a
-      → Puts o 0 (encode form (headed form (part i from s) (blocksAt s from ++ blocksAt t place))) o₂ n
+      → Puts o 0 (encode form (headed form (headerCapitals (part i from s)) (blocksAt s from))) o₁ a
+      → Puts o 0 (encode form (headed form (headerCapitals (part i from s)) (blocksAt s from ++ blocksAt t place))) o₂ n
   unfolding headed
   both-put form q p =
-      let h : List ℕ = part i from s in
+      let h : List ℕ = headerCapitals (part i from s) in
       let bs : List Block = blocksAt s from in
       let cs : List Block = blocksAt t place in
       let e : headed form h (bs ++ cs) ≡ headed form h bs ++ pieces form false cs =
@@ -87,10 +88,10 @@ module _ {s : List ℕ} {i from : ℕ} {t : List ℕ} {place : ℕ} (g : Pair s 
       rw e (joined form (headed form h bs) (pieces form false cs) p q)
 
   pub joined-put : {o o₁ o₂ : List ℕ} {a n : ℕ} (form : ℕ) → Puts o₁ a (encode form (EOT ∷ [])) o₂ n
-      → Puts o 0 (encode form (headed form (part i from s) (blocksAt s from ++ blocksAt t place))) o₁ a
-      → Puts o 0 (render form (part i from s) (blocksAt s from ++ blocksAt t place)) o₂ n
+      → Puts o 0 (encode form (headed form (headerCapitals (part i from s)) (blocksAt s from ++ blocksAt t place))) o₁ a
+      → Puts o 0 (render form (headerCapitals (part i from s)) (blocksAt s from ++ blocksAt t place)) o₂ n
   joined-put form q p =
-      ended-put form (part i from s) (blocksAt s from ++ blocksAt t place)
+      ended-put form (headerCapitals (part i from s)) (blocksAt s from ++ blocksAt t place)
       (rw length-append (omega (arith, blocks-good (g .first .source) .some))) q p
 
   -- the second's blocks stand behind the first's

@@ -13,6 +13,7 @@ use Rattle.octets.proofs.Tests.{choice, compare, by-test, never, and-left, and-
 use Rattle.octets.proofs.Scans.{plain, not-plain}
 use Rattle.header.specs.Header.{isHeader}
 use Rattle.header.proofs.Texts.{header-length}
+use Rattle.header.specs.Capitals.{headerCapitals}
 use Rattle.body.specs.Body.{block}
 use Rattle.writing.specs.declared.Written.{Written}
 use Rattle.forms.specs.Forms.{plainRest, plainBody, summedBody, bodyIn, formOf}
@@ -60,8 +61,8 @@ module _ (form : ℕ) (h : List ℕ) (c : ℕ) (d : List ℕ) (room : ℕ) where
   written-long t = let x = length (formOf form h (block c d true ∷ [])) in rw (lt-ltb TRANSLATED x (omega (arith, form-long form h c d)))
 
   -- what has a number 0 is short
-  pub written-short : length h ≤ TRANSLATED → (n : ℕ) → n ≡ putNumber form h (block c d true ∷ []) room → n ≡ 0 → Short h d
-  written-short s n e z =
+  pub written-short : (g : List ℕ) → length g ≤ TRANSLATED → (n : ℕ) → n ≡ putNumber form h (block c d true ∷ []) room → n ≡ 0 → Short g d
+  written-short g s n e z =
       record { header = s; text = compare TRANSLATED (length d) (λ t. absurd (omega (arith, written-long t))) (λ t. t) }
 
 pub ruleset writable = (written-long, written-short, wholes, delivering)
@@ -82,7 +83,7 @@ module _ (form : ℕ) (h : List ℕ) (c : ℕ) (d o : List ℕ) (t : Bool) (e : 
     write-header i r j = rw (j, ← e, f, ← g, i)
 
     module _ (i : not u ≡ false) where
-      write-at : write form h c d o ≡ (if not (isPlain c && all isPlain d) then unwritten 16 o else put form h (block c d true ∷ []) o)
+      write-at : write form h c d o ≡ (if not (isPlain c && all isPlain d) then unwritten 16 o else put form (headerCapitals h) (block c d true ∷ []) o)
       unfolding write
       write-at = rw (← e, f, ← g, i)
 
@@ -93,7 +94,7 @@ module _ (form : ℕ) (h : List ℕ) (c : ℕ) (d o : List ℕ) (t : Bool) (e : 
         pub write-data : not v ≡ true → (r : Written) → r ≡ writtenAs 16 0 → output r o ≡ write form h c d o
         write-data l r j = rw (j, write-at, plain c k, ← m, l)
 
-        pub write-good : not v ≡ false → (r : Written) (o₁ : List ℕ) → output r o₁ ≡ put form h (block c d true ∷ []) o → output r o₁ ≡ write form h c d o
+        pub write-good : not v ≡ false → (r : Written) (o₁ : List ℕ) → output r o₁ ≡ put form (headerCapitals h) (block c d true ∷ []) o → output r o₁ ≡ write form h c d o
         write-good l r o₁ j = j ∙ rw (write-at, plain c k, ← m, l)
 
 pub ruleset writing = (plain-all, header-short, write-form, write-header, write-command, write-data, write-good, needs)

@@ -5,6 +5,7 @@ use mathlib.Core.List.{List, _++_}
 use Rattle.octets.specs.Choice.{if_then_else_, same}
 use Rattle.body.specs.Body.{hasRead}
 use Rattle.reading.specs.Reading.{Reading, refused, frame, read}
+use Rattle.reading.specs.Capitals.{inCapitals}
 use Rattle.writing.specs.Output.{Output, isForm, unwritten, put}
 use Rattle.writing.specs.Reforming.{checked}
 
@@ -17,6 +18,7 @@ putJoined form (frame h bs) (frame g cs) o =
     else if hasRead bs then unwritten 13 o
     else put form h (bs ++ cs) o
 
--- "Joining: 15, the first input's 3 to 8 and 17, the second's, 12, 13, 18, 14."
+-- "Joining: 15, the first input's 3 to 8 and 17, the second's, 12, 13, 18, 14."; request 4, headers that differ only in small letters
+-- "count as equal in joining"
 unfoldable pub join : ℕ → List ℕ → List ℕ → List ℕ → Output
-join form first second o = if not (isForm form) then unwritten 15 o else putJoined form (checked (read first)) (checked (read second)) o
+join form first second o = if not (isForm form) then unwritten 15 o else putJoined form (checked (inCapitals (read first))) (checked (inCapitals (read second))) o

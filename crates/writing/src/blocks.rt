@@ -10,6 +10,7 @@ ghost use mathlib.Core.Bool.{true};
 ghost use Prim.Native.Nat.{_+_, _*_, _≤_};
 ghost use lib.ListN.{length};
 ghost use Rattle.writing.specs.Reforming.{allRight};
+ghost use Rattle.header.specs.Capitals.{headerCapitals};
 ghost use Rattle.body.specs.Body.{hasRead};
 ghost use Rattle.body.specs.Walking.{part, bodyAt, blocksAt};
 ghost use Rattle.forms.specs.Pieces.{Puts, encode, pieces, headed};
@@ -160,7 +161,7 @@ pub fn put_blocks(
 // The header before them, and every block, in a form.
 pub fn put_headed(out: &mut [u8], form: u8, s: &[u8], header: usize, from: usize) -> usize
     requires { ⌜ Parted (now s) header from ⌝ }
-    ensures { λ r. ⌜ Puts (now (out .entry)) 0 (encode form (headed form (part header from (now (s .entry))) (blocksAt (now (s .entry)) from))) (now (out .exit)) r ⌝ }
+    ensures { λ r. ⌜ Puts (now (out .entry)) 0 (encode form (headed form (headerCapitals (part header from (now (s .entry)))) (blocksAt (now (s .entry)) from))) (now (out .exit)) r ⌝ }
     ensures { λ r. ⌜ r ≤ 2 * SPREAD ⌝ }
 {
     let next = put_heading(out, form, &s[header..from]);

@@ -15,7 +15,7 @@ use crate::output::is_form;
 use crate::output::standard_form;
 use crate::output::unwritten;
 use forms::put_eot;
-use octets::slices::same;
+use header::capitals::same_capitals;
 use reading::Read;
 use reading::reading::read;
 ghost use mathlib.Core.Path.{_≡_};
@@ -23,8 +23,10 @@ ghost use mathlib.Core.List.{_++_};
 ghost use Prim.Native.Nat.{_*_, _≤_};
 ghost use lib.ListN.{length};
 ghost use Rattle.octets.specs.Choice.{same};
+ghost use Rattle.header.specs.Capitals.{headerCapitals};
 ghost use Rattle.body.specs.Walking.{part, blocksAt};
 ghost use Rattle.reading.specs.Reading.{frame, read};
+ghost use Rattle.reading.specs.Capitals.{inCapitals};
 ghost use Rattle.forms.specs.Forms.{render};
 ghost use Rattle.writing.specs.Output.{output, putNumber, put};
 ghost use Rattle.writing.specs.Reforming.{checked};
@@ -43,7 +45,7 @@ fn put_both(
     place: usize,
 ) -> usize
     requires { ⌜ Pair (now s) header from (now t) place ⌝ }
-    ensures { λ r. ⌜ Puts (now (out .entry)) 0 (encode form (headed form (part header from (now (s .entry))) (blocksAt (now (s .entry)) from ++ blocksAt (now (t .entry)) place))) (now (out .exit)) r ⌝ }
+    ensures { λ r. ⌜ Puts (now (out .entry)) 0 (encode form (headed form (headerCapitals (part header from (now (s .entry)))) (blocksAt (now (s .entry)) from ++ blocksAt (now (t .entry)) place))) (now (out .exit)) r ⌝ }
     ensures { λ r. ⌜ r ≤ 3 * SPREAD ⌝ }
 {
     let next = put_headed(out, form, s, header, from);
@@ -61,7 +63,7 @@ fn put_joined(
     place: usize,
 ) -> usize
     requires { ⌜ Pair (now s) header from (now t) place ⌝ }
-    ensures { λ r. ⌜ Puts (now (out .entry)) 0 (render form (part header from (now (s .entry))) (blocksAt (now (s .entry)) from ++ blocksAt (now (t .entry)) place)) (now (out .exit)) r ⌝ }
+    ensures { λ r. ⌜ Puts (now (out .entry)) 0 (render form (headerCapitals (part header from (now (s .entry)))) (blocksAt (now (s .entry)) from ++ blocksAt (now (t .entry)) place)) (now (out .exit)) r ⌝ }
 {
     let next = put_both(out, form, s, header, from, t, place);
     put_eot(out, next, form)
@@ -70,7 +72,7 @@ fn put_joined(
 // How long it is: counted by a run that puts nothing of use.
 fn joined_length(form: u8, s: &[u8], header: usize, from: usize, t: &[u8], place: usize) -> usize
     requires { ⌜ Pair (now s) header from (now t) place ⌝ }
-    ensures { λ r. ⌜ r ≡ length (render form (part header from (now (s .entry))) (blocksAt (now (s .entry)) from ++ blocksAt (now (t .entry)) place)) ⌝ }
+    ensures { λ r. ⌜ r ≡ length (render form (headerCapitals (part header from (now (s .entry)))) (blocksAt (now (s .entry)) from ++ blocksAt (now (t .entry)) place)) ⌝ }
 {
     let mut nowhere = [0u8; 1];
     put_joined(&mut nowhere, form, s, header, from, t, place)
@@ -95,7 +97,7 @@ fn joined_number(
     room: usize,
 ) -> u8
     requires { ⌜ Pair (now s) header from (now t) place ⌝ }
-    ensures { λ r. ⌜ r ≡ putNumber form (part header from (now (s .entry))) (blocksAt (now (s .entry)) from ++ blocksAt (now (t .entry)) place) room ⌝ }
+    ensures { λ r. ⌜ r ≡ putNumber form (headerCapitals (part header from (now (s .entry)))) (blocksAt (now (s .entry)) from ++ blocksAt (now (t .entry)) place) room ⌝ }
 {
     let full = joined_length(standard_form(form), s, header, from, t, place);
     let raw = joined_length(form, s, header, from, t, place);
@@ -114,7 +116,7 @@ fn join_calm(
     out: &mut [u8],
 ) -> Written
     requires { ⌜ Pair (now s) header from (now t) place ⌝ }
-    ensures { λ r. ⌜ output r (now (out .exit)) ≡ put form (part header from (now (s .entry))) (blocksAt (now (s .entry)) from ++ blocksAt (now (t .entry)) place) (now (out .entry)) ⌝ }
+    ensures { λ r. ⌜ output r (now (out .exit)) ≡ put form (headerCapitals (part header from (now (s .entry)))) (blocksAt (now (s .entry)) from ++ blocksAt (now (t .entry)) place) (now (out .entry)) ⌝ }
 {
     let number = joined_number(form, s, header, from, t, place, out.len());
     if number != 0 {
@@ -124,11 +126,11 @@ fn join_calm(
     Written { number: 0, length }
 }
 
-// "the common header"
+// "the common header": headers that differ only in small letters "count as equal in joining".
 fn is_common(h: &[u8], g: &[u8]) -> bool
-    ensures { λ r. ⌜ r ≡ same (now (h .entry)) (now (g .entry)) ⌝ }
+    ensures { λ r. ⌜ r ≡ same (headerCapitals (now (h .entry))) (headerCapitals (now (g .entry))) ⌝ }
 {
-    same(h, g)
+    same_capitals(h, g)
 }
 
 // Two frames whose sums are right: 12, 13, and then the rest.
@@ -144,7 +146,7 @@ fn join_right(
 ) -> Written
     requires { ⌜ Parted (now s) header from ⌝ }
     requires { ⌜ Parted (now t) head place ⌝ }
-    ensures { λ r. ⌜ output r (now (out .exit)) ≡ putJoined form (frame (part header from (now (s .entry))) (blocksAt (now (s .entry)) from)) (frame (part head place (now (t .entry))) (blocksAt (now (t .entry)) place)) (now (out .entry)) ⌝ }
+    ensures { λ r. ⌜ output r (now (out .exit)) ≡ putJoined form (frame (headerCapitals (part header from (now (s .entry)))) (blocksAt (now (s .entry)) from)) (frame (headerCapitals (part head place (now (t .entry)))) (blocksAt (now (t .entry)) place)) (now (out .entry)) ⌝ }
 {
     if !is_common(&s[header..from], &t[head..place]) {
         return unwritten(HEADERS_DIFFER);
@@ -168,7 +170,7 @@ fn join_bytes(
 ) -> Written
     requires { ⌜ Parted (now s) header from ⌝ }
     requires { ⌜ Parted (now t) head place ⌝ }
-    ensures { λ r. ⌜ output r (now (out .exit)) ≡ putJoined form (frame (part header from (now (s .entry))) (blocksAt (now (s .entry)) from)) (checked (frame (part head place (now (t .entry))) (blocksAt (now (t .entry)) place))) (now (out .entry)) ⌝ }
+    ensures { λ r. ⌜ output r (now (out .exit)) ≡ putJoined form (frame (headerCapitals (part header from (now (s .entry)))) (blocksAt (now (s .entry)) from)) (checked (frame (headerCapitals (part head place (now (t .entry)))) (blocksAt (now (t .entry)) place))) (now (out .entry)) ⌝ }
 {
     if !all_right(t, place) {
         return unwritten(WRONG_SUM);
@@ -186,7 +188,7 @@ fn join_second(
     out: &mut [u8],
 ) -> Written
     requires { ⌜ Parted (now s) header from ⌝ }
-    ensures { λ r. ⌜ output r (now (out .exit)) ≡ putJoined form (checked (frame (part header from (now (s .entry))) (blocksAt (now (s .entry)) from))) (checked (read (now (second .entry)))) (now (out .entry)) ⌝ }
+    ensures { λ r. ⌜ output r (now (out .exit)) ≡ putJoined form (checked (frame (headerCapitals (part header from (now (s .entry)))) (blocksAt (now (s .entry)) from))) (checked (inCapitals (read (now (second .entry))))) (now (out .entry)) ⌝ }
 {
     if !all_right(s, from) {
         return unwritten(WRONG_SUM);

@@ -14,6 +14,7 @@ use reading::Read;
 use reading::reading::read;
 ghost use mathlib.Core.Path.{_≡_};
 ghost use lib.ListN.{length};
+ghost use Rattle.header.specs.Capitals.{headerCapitals};
 ghost use Rattle.body.specs.Walking.{part, blocksAt};
 ghost use Rattle.reading.specs.Reading.{frame};
 ghost use Rattle.forms.specs.Forms.{render};
@@ -25,7 +26,7 @@ ghost use Rattle.writing.specs.Sources.{Parted};
 // The frame whose header and body start at two places of its bytes, in a form.
 fn put_reformed(out: &mut [u8], form: u8, s: &[u8], header: usize, from: usize) -> usize
     requires { ⌜ Parted (now s) header from ⌝ }
-    ensures { λ r. ⌜ Puts (now (out .entry)) 0 (render form (part header from (now (s .entry))) (blocksAt (now (s .entry)) from)) (now (out .exit)) r ⌝ }
+    ensures { λ r. ⌜ Puts (now (out .entry)) 0 (render form (headerCapitals (part header from (now (s .entry)))) (blocksAt (now (s .entry)) from)) (now (out .exit)) r ⌝ }
 {
     let next = put_headed(out, form, s, header, from);
     put_eot(out, next, form)
@@ -34,7 +35,7 @@ fn put_reformed(out: &mut [u8], form: u8, s: &[u8], header: usize, from: usize) 
 // How long it is: counted by a run that puts nothing of use.
 fn reformed_length(form: u8, s: &[u8], header: usize, from: usize) -> usize
     requires { ⌜ Parted (now s) header from ⌝ }
-    ensures { λ r. ⌜ r ≡ length (render form (part header from (now (s .entry))) (blocksAt (now (s .entry)) from)) ⌝ }
+    ensures { λ r. ⌜ r ≡ length (render form (headerCapitals (part header from (now (s .entry)))) (blocksAt (now (s .entry)) from)) ⌝ }
 {
     let mut nowhere = [0u8; 1];
     put_reformed(&mut nowhere, form, s, header, from)
@@ -43,7 +44,7 @@ fn reformed_length(form: u8, s: &[u8], header: usize, from: usize) -> usize
 // 18, 14 or 0.
 fn reformed_number(form: u8, s: &[u8], header: usize, from: usize, room: usize) -> u8
     requires { ⌜ Parted (now s) header from ⌝ }
-    ensures { λ r. ⌜ r ≡ putNumber form (part header from (now (s .entry))) (blocksAt (now (s .entry)) from) room ⌝ }
+    ensures { λ r. ⌜ r ≡ putNumber form (headerCapitals (part header from (now (s .entry)))) (blocksAt (now (s .entry)) from) room ⌝ }
 {
     let full = reformed_length(standard_form(form), s, header, from);
     let raw = reformed_length(form, s, header, from);
@@ -53,7 +54,7 @@ fn reformed_number(form: u8, s: &[u8], header: usize, from: usize, room: usize) 
 // A frame whose sums are right: 18, 14 or the result.
 fn reform_right(form: u8, s: &[u8], header: usize, from: usize, out: &mut [u8]) -> Written
     requires { ⌜ Parted (now s) header from ⌝ }
-    ensures { λ r. ⌜ output r (now (out .exit)) ≡ put form (part header from (now (s .entry))) (blocksAt (now (s .entry)) from) (now (out .entry)) ⌝ }
+    ensures { λ r. ⌜ output r (now (out .exit)) ≡ put form (headerCapitals (part header from (now (s .entry)))) (blocksAt (now (s .entry)) from) (now (out .entry)) ⌝ }
 {
     let number = reformed_number(form, s, header, from, out.len());
     if number != 0 {
@@ -66,7 +67,7 @@ fn reform_right(form: u8, s: &[u8], header: usize, from: usize, out: &mut [u8]) 
 // The bytes that a frame stands for: its 17 first.
 fn reform_bytes(form: u8, s: &[u8], header: usize, from: usize, out: &mut [u8]) -> Written
     requires { ⌜ Parted (now s) header from ⌝ }
-    ensures { λ r. ⌜ output r (now (out .exit)) ≡ putRead form (checked (frame (part header from (now (s .entry))) (blocksAt (now (s .entry)) from))) (now (out .entry)) ⌝ }
+    ensures { λ r. ⌜ output r (now (out .exit)) ≡ putRead form (checked (frame (headerCapitals (part header from (now (s .entry)))) (blocksAt (now (s .entry)) from))) (now (out .entry)) ⌝ }
 {
     if !all_right(s, from) {
         return unwritten(WRONG_SUM);

@@ -22,6 +22,7 @@ ghost use Prim.Native.Nat.{_≤_};
 ghost use lib.ListN.{length};
 ghost use Rattle.octets.specs.Choice.{all};
 ghost use Rattle.octets.specs.Bytes.{TRANSLATED, isPlain};
+ghost use Rattle.header.specs.Capitals.{headerCapitals};
 ghost use Rattle.body.specs.Body.{block};
 ghost use Rattle.forms.specs.Forms.{render};
 ghost use Rattle.writing.specs.Output.{output, putNumber, put};
@@ -39,7 +40,7 @@ fn all_plain(text: &[u8]) -> bool
 // The whole frame, in a form.
 fn put_written(out: &mut [u8], form: u8, h: &[u8], command: u8, text: &[u8]) -> usize
     requires { ⌜ Short (now h) (now text) ⌝ }
-    ensures { λ r. ⌜ Puts (now (out .entry)) 0 (render form (now (h .entry)) (block command (now (text .entry)) true ∷ [])) (now (out .exit)) r ⌝ }
+    ensures { λ r. ⌜ Puts (now (out .entry)) 0 (render form (headerCapitals (now (h .entry))) (block command (now (text .entry)) true ∷ [])) (now (out .exit)) r ⌝ }
 {
     let a = put_heading(out, form, h);
     let b = put_piece(out, a, form, true, command, text);
@@ -49,7 +50,7 @@ fn put_written(out: &mut [u8], form: u8, h: &[u8], command: u8, text: &[u8]) -> 
 // How long it is: counted by a run that puts nothing of use.
 fn written_length(form: u8, h: &[u8], command: u8, text: &[u8]) -> usize
     requires { ⌜ Short (now h) (now text) ⌝ }
-    ensures { λ r. ⌜ r ≡ length (render form (now (h .entry)) (block command (now (text .entry)) true ∷ [])) ⌝ }
+    ensures { λ r. ⌜ r ≡ length (render form (headerCapitals (now (h .entry))) (block command (now (text .entry)) true ∷ [])) ⌝ }
 {
     let mut nowhere = [0u8; 1];
     put_written(&mut nowhere, form, h, command, text)
@@ -58,7 +59,7 @@ fn written_length(form: u8, h: &[u8], command: u8, text: &[u8]) -> usize
 // 18, 14 or 0.
 fn written_number(form: u8, h: &[u8], command: u8, text: &[u8], room: usize) -> u8
     requires { ⌜ length (now h) ≤ TRANSLATED ⌝ }
-    ensures { λ r. ⌜ r ≡ putNumber form (now (h .entry)) (block command (now (text .entry)) true ∷ []) room ⌝ }
+    ensures { λ r. ⌜ r ≡ putNumber form (headerCapitals (now (h .entry))) (block command (now (text .entry)) true ∷ []) room ⌝ }
 {
     if TRANSLATED < text.len() {
         return TOO_LONG;
@@ -71,7 +72,7 @@ fn written_number(form: u8, h: &[u8], command: u8, text: &[u8], room: usize) -> 
 // A good header text and plain bytes: 18, 14 or the result.
 fn write_plain(form: u8, h: &[u8], command: u8, text: &[u8], out: &mut [u8]) -> Written
     requires { ⌜ length (now h) ≤ TRANSLATED ⌝ }
-    ensures { λ r. ⌜ output r (now (out .exit)) ≡ put form (now (h .entry)) (block command (now (text .entry)) true ∷ []) (now (out .entry)) ⌝ }
+    ensures { λ r. ⌜ output r (now (out .exit)) ≡ put form (headerCapitals (now (h .entry))) (block command (now (text .entry)) true ∷ []) (now (out .entry)) ⌝ }
 {
     let number = written_number(form, h, command, text, out.len());
     if number != 0 {

@@ -20,11 +20,11 @@ follow-requires c κs = search behindEtx
 returns : tie.Need-returns
 returns c = search behindEtx
 
-add-four-at : tie.Need-add-four-at
-add-four-at c = search behindEtx
+add-carried-four-at : tie.Need-add-carried-four-at
+add-carried-four-at c = search behindEtx
 
-four-at-requires : tie.Need-four-at-requires
-four-at-requires c κs = search behindEtx
+carried-four-at-requires : tie.Need-carried-four-at-requires
+carried-four-at-requires c κs = search behindEtx
 
 enum-told : tie.Need-enum-told
 enum-told c = search behindEtx
@@ -54,8 +54,8 @@ after-etx-spec =
     add-follow
     follow-requires
     returns
-    add-four-at
-    four-at-requires
+    add-carried-four-at
+    carried-four-at-requires
     enum-told
     enum-known-v
     add-follow-2

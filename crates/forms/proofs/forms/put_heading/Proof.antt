@@ -9,8 +9,8 @@ put-nuls-requires c κs = search headings
 put-one-requires : tie.Need-put-one-requires
 put-one-requires c κs = omega (arith, nuls-near)
 
-put-all-requires : tie.Need-put-all-requires
-put-all-requires c κs = omega (arith, nuls-near, puts-near)
+put-header-requires : tie.Need-put-header-requires
+put-header-requires c κs = omega (arith, nuls-near, puts-near)
 
 same-length : tie.Need-same-length
 same-length c = search headings
@@ -20,4 +20,4 @@ returns c = search headings
 
 pub put-heading-spec : {M : Type 1} → statement M
 put-heading-spec =
-    tie.close (tie.spec put-nuls-requires put-one-requires put-all-requires same-length returns)
+    tie.close (tie.spec put-nuls-requires put-one-requires put-header-requires same-length returns)

@@ -5,11 +5,11 @@ use Rattle.reading.proofs.translation.char_at.Tie as tie
 shared-slice-read-x : tie.Need-shared-slice-read-x
 shared-slice-read-x c = search chars
 
-add-two-at : tie.Need-add-two-at
-add-two-at c = search chars
+add-carried-two-at : tie.Need-add-carried-two-at
+add-carried-two-at c = search chars
 
-two-at-requires : tie.Need-two-at-requires
-two-at-requires c κs = search chars
+carried-two-at-requires : tie.Need-carried-two-at-requires
+carried-two-at-requires c κs = search chars
 
 enum-told : tie.Need-enum-told
 enum-told c = search chars
@@ -43,8 +43,8 @@ char-at-spec =
     tie.close
     (tie.spec
     shared-slice-read-x
-    add-two-at
-    two-at-requires
+    add-carried-two-at
+    carried-two-at-requires
     enum-told
     enum-known-byte
     add-t11

@@ -8,8 +8,8 @@ quiet-requires c κs = search addressing
 returns : tie.Need-returns
 returns c = search addressing
 
-two-at-requires : tie.Need-two-at-requires
-two-at-requires c κs = search addressing
+carried-two-at-requires : tie.Need-carried-two-at-requires
+carried-two-at-requires c κs = search addressing
 
 enum-told : tie.Need-enum-told
 enum-told c = search addressing
@@ -38,7 +38,7 @@ set-address-spec =
     (tie.spec
     quiet-requires
     returns
-    two-at-requires
+    carried-two-at-requires
     enum-told
     quiet-requires-2
     enum-known-address

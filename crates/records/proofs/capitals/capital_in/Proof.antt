@@ -1,0 +1,21 @@
+use Rattle.records.proofs.InCapitals.{filled}
+use Rattle.records.proofs.capitals.capital_in.Statement.{statement}
+use Rattle.records.proofs.capitals.capital_in.Tie as tie
+
+add-b : tie.Need-add-b
+add-b c = search filled
+
+shared-slice-read-b : tie.Need-shared-slice-read-b
+shared-slice-read-b c = search filled
+
+capital-requires : tie.Need-capital-requires
+capital-requires c κs = search filled
+
+returns : tie.Need-returns
+returns c = search filled
+
+returns-2 : tie.Need-returns-2
+returns-2 c = search filled
+
+pub capital-in-spec : {M : Type 1} → statement M
+capital-in-spec = tie.close (tie.spec add-b shared-slice-read-b capital-requires returns returns-2)
