@@ -6,6 +6,8 @@
  * - a buffer that is written (a pointer without const) shares no byte with another buffer of the call;
  * - nothing else writes the buffers while the call runs, and the stack has room for it (PAGOZKIN_STACK_..).
  * Nothing more: frames, boards, numbers and lengths may be anything, and each call does its own checking.
+ * In frames hex digits may be small letters, a to f: in checksums, escapes, header addresses, E "7" and SIZE and QQQQ of E "$", and
+ * nowhere else. What the calls store, reply and write is in capitals; a block's data are copied as received.
  * No call keeps anything for the next one or takes memory besides the stack, so calls on different buffers may run at one time.
  * The library calls memcpy and memset and nothing else. */
 #ifndef PAGOZKIN_H
@@ -22,7 +24,7 @@ extern "C" {
  * where only what a call answers has changed, the third. */
 #define PAGOZKIN_VERSION_MAJOR 5
 #define PAGOZKIN_VERSION_MINOR 0
-#define PAGOZKIN_VERSION_PATCH 0
+#define PAGOZKIN_VERSION_PATCH 1
 
 /* Marks every call: an answer that is thrown away hides a refusal, and a compiler that can shall warn of it. */
 #if defined(__GNUC__) || defined(__clang__)
@@ -89,7 +91,7 @@ enum {
     PAGOZKIN_NOT_ADDRESSED = 9,    /* "not addressed" */
     PAGOZKIN_WRONG_TYPE = 10,      /* "fresh board: wrong type" */
     PAGOZKIN_WRONG_MEMORY = 11,    /* "wrong memory length" */
-    PAGOZKIN_HEADERS_DIFFER = 12,  /* "join: header texts differ" */
+    PAGOZKIN_HEADERS_DIFFER = 12,  /* "join: header texts differ", in more than small letters */
     PAGOZKIN_FIRST_HAS_READ = 13,  /* "first frame has a read" */
     PAGOZKIN_NO_ROOM = 14,         /* "output buffer too short" */
     PAGOZKIN_WRONG_FORM = 15,      /* "form not 1, 2 or 3" */
@@ -196,7 +198,7 @@ typedef struct pagozkin_places {
     uint8_t number;    /* 0, or 3 to 8 with everything else 0 */
     uint8_t printable; /* 1: the bytes that the frame stands for are at the start of the room; 0: they are the frame itself */
     size_t length;     /* how many they are */
-    size_t header;     /* where the header starts among them; it ends where the body starts */
+    size_t header;     /* where the header starts among them, as it was received; it ends where the body starts */
     size_t body;       /* where the first block's STX is among them */
 } pagozkin_places;
 
@@ -277,17 +279,19 @@ uint8_t pagozkin_is_sound(pagozkin_settings settings, const uint8_t *memory, siz
 pagozkin_answer pagozkin_run(pagozkin_settings settings, uint8_t *memory, size_t memory_len, uint8_t *reply, size_t reply_len,
                              const uint8_t *frame, size_t frame_len) PAGOZKIN_MUST_USE;
 
-/* "writing a one-command frame": 0, 15, 6, 16, 18 or 14. header is the header's text, text the command's data.
+/* "writing a one-command frame": 0, 15, 6, 16, 18 or 14. header is the header's text, text the command's data;
+ * the header's addresses are written in capitals.
  * C must see to: header, text and out valid for their lengths, and no byte of out in the others. */
 pagozkin_written pagozkin_write(uint8_t form, const uint8_t *header, size_t header_len, uint8_t command, const uint8_t *text,
                                 size_t text_len, uint8_t *out, size_t out_len) PAGOZKIN_MUST_USE;
 
-/* "putting a frame into another form (re-forming)": 0, 15, 3 to 8, 17, 18 or 14.
+/* "putting a frame into another form (re-forming)": 0, 15, 3 to 8, 17, 18 or 14. The header's addresses are written in capitals.
  * C must see to: frame and out valid for their lengths, and no byte of out in frame. */
 pagozkin_written pagozkin_reform(uint8_t form, const uint8_t *frame, size_t frame_len, uint8_t *out,
                                  size_t out_len) PAGOZKIN_MUST_USE;
 
 /* "Joining puts the second frame's blocks after the first's under the common header.": 0, 15, 3 to 8, 17, 12, 13, 18 or 14.
+ * "Headers that differ only in" small letters of their addresses "count as equal"; the common one is written in capitals.
  * C must see to: first, second and out valid for their lengths, and no byte of out in the others. */
 pagozkin_written pagozkin_join(uint8_t form, const uint8_t *first, size_t first_len, const uint8_t *second, size_t second_len,
                                uint8_t *out, size_t out_len) PAGOZKIN_MUST_USE;

@@ -1,7 +1,7 @@
 /* Each field of each struct of pagozkin.h, by name, after calls that give every field of a struct another value; unused amounts and
  * indices that are right and that are wrong; dates that exist and dates that do not; renewal dates, weekdays and days between dates;
- * temperature offsets and readings; every serial error status register; what a read leaves in its room; and each call with empty
- * slices. */
+ * temperature offsets and readings; every serial error status register; hex digits in capitals and in small letters, every byte in each
+ * place of one; what a read leaves in its room; and each call with empty slices. */
 #include "expect.h"
 
 #include <pagozkin.h>
@@ -250,7 +250,7 @@ static void reads(void)
     b = pagozkin_step(room, p.length, 6);
     IS(b.kind, PAGOZKIN_NO_BLOCK);
     IS(b.next, 21);
-    p = pagozkin_read(BYTES("_0a"), room);
+    p = pagozkin_read(BYTES("_0G"), room);
     IS(p.number, PAGOZKIN_BAD_PRINTABLE);
     IS(p.length, 0);
 }
@@ -276,7 +276,7 @@ static void rooms(void)
     leaves(PAGOZKIN_BAD_HEADER, BYTES("_01Q00_02AA_04"), BYTES("\001Q00\002AA\004"));
     leaves(PAGOZKIN_BAD_BODY, BYTES("_01Z00_02AA"), BYTES("\001Z00\002AA"));
     leaves(PAGOZKIN_READ_NOT_LAST, BYTES("_01Z00_02BA_03_02AA_04"), BYTES("\001Z00\002BA\003\002AA\004"));
-    leaves(PAGOZKIN_BAD_PRINTABLE, BYTES("_01Z00_02AA_0a"), BYTES(""));
+    leaves(PAGOZKIN_BAD_PRINTABLE, BYTES("_01Z00_02AA_0G"), BYTES(""));
     leaves(PAGOZKIN_WRONG_LENGTH, longer, sizeof longer, BYTES(""));
     leaves(PAGOZKIN_DONE, BYTES("\0\0\0\0\0\001Z00\002AA\004"), BYTES(""));
 }
@@ -418,6 +418,116 @@ static void errors(void)
     }
 }
 
+/* The capital of a hex digit, small letters too; 0 of any other byte. */
+static unsigned capital(unsigned c)
+{
+    return c >= 'a' && c <= 'f' ? c - 'a' + 'A' : (c >= '0' && c <= '9') || (c >= 'A' && c <= 'F') ? c : 0;
+}
+
+static unsigned value(unsigned c)
+{
+    return capital(c) < 'A' ? capital(c) - '0' : capital(c) - 'A' + 10;
+}
+
+/* A byte in the place of an address character: written, re-formed, and joined with every digit there. */
+static void header_letter(uint8_t c)
+{
+    uint8_t frame[] = "\0\0\0\0\0\001Z0A,Z00\002E'S\004", other[sizeof frame], out[64];
+    const int taken = capital(c) != 0 || c == '?';
+    memcpy(other, frame, sizeof frame);
+    frame[8] = c;
+    other[8] = (uint8_t)(c == '?' ? c : capital(c));
+    pagozkin_written w = pagozkin_write(PAGOZKIN_PLAIN_FORM, frame + 6, 7, 'E', BYTES("'S"), out, sizeof out);
+    IS(w.number, taken ? PAGOZKIN_DONE : PAGOZKIN_BAD_HEADER);
+    is("a header that is written in capitals", !taken || memcmp(out, other, sizeof other - 1) == 0, 1);
+    w = pagozkin_reform(PAGOZKIN_PLAIN_FORM, frame, sizeof frame - 1, out, sizeof out);
+    IS(w.number, taken ? PAGOZKIN_DONE : PAGOZKIN_BAD_HEADER);
+    is("a header that is re-formed in capitals", !taken || memcmp(out, other, sizeof other - 1) == 0, 1);
+    if (!taken)
+        return;
+    for (unsigned d = '0'; d <= 'f'; d++) {
+        other[8] = (uint8_t)d;
+        w = pagozkin_join(PAGOZKIN_PLAIN_FORM, frame, sizeof frame - 1, other, sizeof other - 1, out, sizeof out);
+        if (capital(d) != 0)
+            IS(w.number, capital(d) == capital(c) ? PAGOZKIN_DONE : PAGOZKIN_HEADERS_DIFFER);
+    }
+}
+
+/* "c", "d" and "e" are types, and so are "C", "D" and "E". */
+static void type_letters(void)
+{
+    uint8_t first[] = "_01?00,c0a_02E'S_04", second[] = "_01?00,C0A_02E'S_04", out[64];
+    for (uint8_t i = 0; i < 3; i++) {
+        first[7] = (uint8_t)('c' + i);
+        second[7] = (uint8_t)('C' + i);
+        pagozkin_written w = pagozkin_join(PAGOZKIN_PLAIN_FORM, first, sizeof first - 1, second, sizeof second - 1, out, sizeof out);
+        is("types that differ as a small letter and its capital", w.number, PAGOZKIN_HEADERS_DIFFER);
+        second[7] = first[7];
+        w = pagozkin_join(PAGOZKIN_PLAIN_FORM, first, sizeof first - 1, second, sizeof second - 1, out, sizeof out);
+        IS(w.number, PAGOZKIN_DONE);
+        is("a type that is written as sent", out[10], first[7]);
+    }
+}
+
+static int among(const char *text, unsigned c)
+{
+    while (*text != 0 && (unsigned char)*text != c)
+        text++;
+    return *text != 0;
+}
+
+/* What may stand at each place of the record AAU001AFD00, the other ten as they are, on 512 bytes: digits as capitals. */
+static const char *const record[PAGOZKIN_RECORD] = {
+    "", "A", "UL", "0", "01", "0123456789ABCDEF", "0123456789ABCDEF", "012345678F", "DEF", "012345678", "0123456789ABCDEF",
+};
+
+/* A byte in each place of a frame where hex digits are taken, and in those of "!" and of a record's F, T and P: what a run does with it. */
+static void frame_letter(pagozkin_settings s, uint8_t c)
+{
+    uint8_t escape[] = "_01Z00_02E'_4D_04", sum[] = "_01Z00_02E'S_0300C4_04", speaker[] = "\0\0\0\0\0\001Z00\002E!FF\004";
+    uint8_t address[] = "\0\0\0\0\0\001Z00\002E70A\004", list[] = "\0\0\0\0\0\001Z00\002E$AAU001AFD00\004";
+    const int taken = capital(c) != 0;
+    escape[13] = c;
+    pagozkin_answer a = pagozkin_run(s, memory, MEMORY, reply, sizeof reply, escape, sizeof escape - 1);
+    IS(a.number, taken ? PAGOZKIN_DONE : PAGOZKIN_BAD_PRINTABLE);
+    IS(a.settings.format, capital(c) == 'D' ? 'M' : 'S');
+    if (c != '_' && c >= ' ' && c <= '~') {
+        sum[17] = c;
+        a = pagozkin_run(s, memory, MEMORY, reply, sizeof reply, sum, sizeof sum - 1);
+        IS(a.number, taken ? PAGOZKIN_DONE : PAGOZKIN_BAD_BODY);
+        IS(a.tally.done, capital(c) == 'C');
+    }
+    if (c < 5)
+        return;
+    address[13] = c;
+    a = pagozkin_run(s, memory, MEMORY, reply, sizeof reply, address, sizeof address - 1);
+    IS(a.tally.done, taken);
+    IS(a.settings.address, taken ? value(c) : 0);
+    speaker[12] = c;
+    a = pagozkin_run(s, memory, MEMORY, reply, sizeof reply, speaker, sizeof speaker - 1);
+    IS(a.tally.done, c == 'F');
+    for (size_t k = 0; k < PAGOZKIN_RECORD; k++) {
+        uint8_t sent[sizeof list];
+        memcpy(sent, list, sizeof list);
+        sent[12 + k] = c;
+        const unsigned stored = k < 3 ? c : capital(c);
+        const int good = k == 0 ? c >= ' ' && c <= '~' && c != '0' && c != '?' : among(record[k], stored);
+        s = board();
+        a = pagozkin_run(s, memory, MEMORY, reply, sizeof reply, sent, sizeof sent - 1);
+        IS(a.tally.done, good);
+        is("a byte of a record as it is stored", good ? memory[k] : stored, stored);
+    }
+}
+
+static void letters(void)
+{
+    for (int c = 0; c < 256; c++) {
+        header_letter((uint8_t)c);
+        frame_letter(board(), (uint8_t)c);
+    }
+    type_letters();
+}
+
 /* A length of 0 asks nothing of its pointer. */
 static void empties(void)
 {
@@ -444,6 +554,7 @@ int main(void)
     days();
     temperatures();
     errors();
+    letters();
     writes();
     reads();
     rooms();

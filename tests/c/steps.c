@@ -1,5 +1,5 @@
 /* pagozkin_step beside a plain reading of one block, byte by byte: data of 0 to 100 bytes, so of up to six whole strides and every rest,
- * with each control byte at each place, good and bad ends, right and wrong sums, and long ones whose sum is carried out of 16 bits. The
+ * with each control byte at each place, good and bad ends, right and wrong sums, in capitals and in small letters, and long ones whose sum is carried out of 16 bits. The
  * compiler makes wide instructions of the library's steps, and no proof covers the compiler. */
 #include "digits.h"
 #include "expect.h"
@@ -20,7 +20,7 @@ static unsigned byte_at(size_t i)
 
 static int digit(unsigned c)
 {
-    return c >= '0' && c <= '9' ? (int)c - '0' : c >= 'A' && c <= 'F' ? (int)c - 'A' + 10 : -1;
+    return c >= '0' && c <= '9' ? (int)c - '0' : c >= 'A' && c <= 'F' ? (int)c - 'A' + 10 : c >= 'a' && c <= 'f' ? (int)c - 'a' + 10 : -1;
 }
 
 static pagozkin_block_places no_block(void)
@@ -105,6 +105,14 @@ static void end_with_sum(size_t off)
     length += 4;
 }
 
+/* The sum's digits as small letters. */
+static void in_small(size_t at)
+{
+    for (size_t i = at; i < at + 4; i++)
+        if (bytes[i] >= 'A')
+            bytes[i] += 'a' - 'A';
+}
+
 /* Good ends, then bad ones. */
 static const char *const ends[] = {
     "\004", "\003\004", "\003\002", "\003\002AB\003\002CDEFGHIJKLMNOPQ\003\004", "\003", "\003\001", "", "\001", "\003X",
@@ -132,6 +140,17 @@ static void blocks(size_t n)
             put("\004", 1);
             compare();
             bytes[length - 1] = STX;
+            compare();
+            in_small(length - 5);
+            compare();
+        }
+    /* every byte in the place of each digit of the sum */
+    for (size_t k = 2; k <= 5 && n < 17; k++)
+        for (unsigned c = 0; c < 256; c++) {
+            begin(n, 'A');
+            end_with_sum(0);
+            put("\004", 1);
+            bytes[length - k] = (uint8_t)c;
             compare();
         }
     /* a byte of the data is another than the sum has it */

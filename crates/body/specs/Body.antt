@@ -37,7 +37,7 @@ isEnd l = l ! 0 is EOT && length l is 1
 unfoldable pub follow : Block → List ℕ → Step
 follow b l = if l ! 0 is STX then more b l else if isEnd l then last b else stray
 
--- "After ETX, STX or EOT means no checksum; otherwise four upper-case hex digits, then STX or EOT."
+-- "After ETX, STX or EOT means no checksum; otherwise four upper-case hex digits, then STX or EOT."; request 4: small letters too
 unfoldable pub afterEtx : ℕ → List ℕ → List ℕ → Step
 afterEtx c d l =
     if l ! 0 is STX || l ! 0 is EOT then follow (block c d true) l

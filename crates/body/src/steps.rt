@@ -67,7 +67,8 @@ fn no_sum(b: u8) -> bool
     }
 }
 
-// "After ETX, STX or EOT means no checksum; otherwise four upper-case hex digits, then STX or EOT." The ETX stands at `to`.
+// "After ETX, STX or EOT means no checksum; otherwise four upper-case hex digits, then STX or EOT."; small letters
+// are taken too. The ETX stands at `to`.
 fn after_etx(s: &[u8], at: usize, to: usize, command: u8, sum: u16) -> BlockStep
     requires { ⌜ Inside (now s) at (to + 1) ⌝ }
     requires { ⌜ at + 2 ≤ to ⌝ }

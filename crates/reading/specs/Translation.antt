@@ -1,4 +1,5 @@
--- The printable form, "where "_" and two upper-case hex digits stand for that byte and 20H to 7EH otherwise stand for themselves".
+-- The printable form, "where "_" and two upper-case hex digits stand for that byte and 20H to 7EH otherwise stand for themselves";
+-- request 4: small letters too.
 use Prim.Native.Nat.{ℕ, zero, suc}
 use mathlib.Core.List.{List, [], _∷_}
 use Rattle.octets.specs.Choice.{if_then_else_, _is_, between}

@@ -1,4 +1,5 @@
 // "5FH: printable, where "_" and two upper-case hex digits stand for that byte and 20H to 7EH otherwise stand for themselves".
+// Small letters are taken too.
 use octets::bytes::ESCAPE;
 use octets::bytes::FIRST_PRINTABLE;
 use octets::bytes::LAST_PRINTABLE;
