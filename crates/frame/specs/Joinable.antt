@@ -9,7 +9,7 @@ use Rattle.forms.specs.Forms.{render}
 use Rattle.writing.specs.Output.{isForm, isOver}
 use Rattle.frame.specs.Results.{Sure}
 
--- a form (15), two frames that read (3 to 8) with one header text, in capitals, (12) and right sums or none (17), no read in the first (13),
+-- a form (15), two frames that read (3 to 8) under one header, in capitals (12), with right sums or none (17), no read in the first (13),
 -- a result within the limits (18), room for it (14)
 pub record Joinable (k : ℕ) (f g o : List ℕ) : Type 0 where
   pub form : isForm k ≡ true

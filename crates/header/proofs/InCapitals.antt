@@ -22,11 +22,11 @@ use Rattle.header.specs.Capitals.{capitalAt, capitalsFrom, headerCapital
 -- ---- a byte at a place
 
 module _ (i x : ℕ) where
-  pub at-type : i % 4 ≡ 0 → capitalAt i x ≡ x
+  at-type : i % 4 ≡ 0 → capitalAt i x ≡ x
   unfolding capitalAt
   at-type e = rw e
 
-  pub at-other : (i % 4 ≡ 0 → ⊥) → capitalAt i x ≡ capital x
+  at-other : (i % 4 ≡ 0 → ⊥) → capitalAt i x ≡ capital x
   unfolding capitalAt
   at-other n = rw (ne-eqb (i % 4) 0 n)
 
@@ -84,7 +84,7 @@ module _ (h : List ℕ) where
   header-long = capitals-long 0 h
 
   -- a byte of them
-  pub header-at : (k : ℕ) → headerCapitals h ! k ≡ capitalAt k (h ! k)
+  header-at : (k : ℕ) → headerCapitals h ! k ≡ capitalAt k (h ! k)
   unfolding headerCapitals
   header-at k = capitals-at 0 h k ∙ ap (λ (j : ℕ). capitalAt j (h ! k)) (zero-add k)
 
@@ -173,9 +173,6 @@ module _ (h : List ℕ) (i b : ℕ) (e : b ≡ h ! i) where
   pub told-other : (i % 4 ≡ 0 → ⊥) → (c : ℕ) → c ≡ capital b → c ≡ headerCapitals h ! i
   told-other n c f = f ∙ ap capital e ∙ sym (header-at h i ∙ at-other i (h ! i) n)
 
-pub told-same : (a b x y : ℕ) → a ≡ x → b ≡ y → (a is b) ≡ (x is y)
-told-same a b x y p q = rw (p, q)
-
 module _ (h g : List ℕ) where
   pub caps-differ : (length h ≡ length g → ⊥) → false ≡ same (headerCapitals h) (headerCapitals g)
   caps-differ n = same-long (headerCapitals h) (headerCapitals g) (λ e. n (sym (header-long h) ∙ e ∙ header-long g))
@@ -197,4 +194,4 @@ module _ (h g : List ℕ) where
     pub caps-end : length h ≤ i → true ≡ same (headerCapitals h) (headerCapitals g)
     caps-end l = alike-end w (rw (header-long h) l)
 
-pub ruleset caps = (told-type, told-other, told-same, caps-differ, caps-start, caps-not, caps-on, caps-end, needs)
+pub ruleset caps = (told-type, told-other, caps-differ, caps-start, caps-not, caps-on, caps-end, needs)

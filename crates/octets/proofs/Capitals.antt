@@ -67,7 +67,7 @@ capital-digit n h = sym (capital-below (digit n) (omega (arith, digit-most n h))
 
 -- ---- a list
 
-pub capitals-length : (l : List ℕ) → length (capitals l) ≡ length l
+capitals-length : (l : List ℕ) → length (capitals l) ≡ length l
 unfolding capitals
 capitals-length [] = refl
 capitals-length (x ∷ l) = ap suc (capitals-length l)
@@ -79,7 +79,7 @@ capitals-at [] i = refl
 capitals-at (x ∷ l) zero = refl
 capitals-at (x ∷ l) (suc i) = capitals-at l i
 
-pub capitals-drop : (i : ℕ) (l : List ℕ) → capitals (drop i l) ≡ drop i (capitals l)
+capitals-drop : (i : ℕ) (l : List ℕ) → capitals (drop i l) ≡ drop i (capitals l)
 unfolding capitals
 capitals-drop zero l = refl
 capitals-drop (suc i) [] = refl
