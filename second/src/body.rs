@@ -55,7 +55,7 @@ fn take_block(bytes: &[u8]) -> Option<(Block<'_>, &[u8])> {
 
 /// "ETX ends a block; only the last may end at EOT without it. After ETX, STX
 /// or EOT means no checksum; otherwise four upper-case hex digits, then STX or
-/// EOT."
+/// EOT." Request 4 takes small letters too.
 fn take_end(end: &[u8]) -> Option<(Option<u16>, &[u8])> {
     match end {
         [EOT, ..] => Some((None, end)),

@@ -44,7 +44,9 @@ fn records(list: &[u8]) -> Result<Vec<Record>, Number> {
         .collect()
 }
 
-/// "SIZE 0000 is allowed only in a last TEXT record".
+/// "SIZE 0000 is allowed only in a last TEXT record". Request 4 takes small letters
+/// in "the hex digits of configuration records", SIZE and QQQQ; the record is stored
+/// in capitals.
 fn record(bytes: &[u8], is_last: bool) -> Option<Record> {
     let bytes = <[u8; RECORD_LENGTH]>::try_from(bytes).ok()?;
     let record = Record::parse(bytes, frame_digit)?;

@@ -2,6 +2,7 @@
 
 use crate::body::{Block, MOST_BLOCKS};
 use crate::bytes::{EOT, ETX, HIGHEST_PRINTABLE, LOWEST_PRINTABLE, NUL, SOH, STX, UNDERSCORE};
+use crate::header::capitals;
 use crate::hex::{byte_digits, word_digits};
 use crate::numbers::{Number, DONE, RESULT_TOO_LONG, SHORT_OUTPUT, WRONG_FORM};
 use crate::sum::checksum;
@@ -74,14 +75,16 @@ fn fill_start(output: &mut [u8], bytes: &[u8]) -> Result<usize, Number> {
     Ok(bytes.len())
 }
 
-/// The translated bytes of the result.
+/// The translated bytes of the result. Request 4: what we write stays in capitals,
+/// "as do the escapes, sums and header addresses we write; block data are copied as
+/// received".
 fn translated(form: Form, header: &[u8], blocks: &[Block<'_>]) -> Vec<u8> {
     let mut bytes = Vec::new();
     if form != Form::Printable {
         bytes.extend([NUL; LEAD_NULS]);
     }
     bytes.push(SOH);
-    bytes.extend_from_slice(header);
+    bytes.extend(capitals(header));
     match form {
         Form::Plain => push_plain(&mut bytes, blocks),
         Form::Summed | Form::Printable => push_summed(&mut bytes, blocks),

@@ -11,7 +11,7 @@ use crate::translation::Translated;
 /// A frame that reads well. It need not be addressed to anybody.
 #[derive(Debug)]
 pub struct Frame<'a> {
-    /// The header's text, up to the first STX.
+    /// The header's text as received, up to the first STX.
     pub header: &'a [u8],
     pub pairs: Vec<Pair>,
     pub blocks: Vec<Block<'a>>,

@@ -1,7 +1,7 @@
 //! The header: pairs of a type code and an address, and the boards they fit.
 
 use crate::bytes::{ANY_DIGIT, COMMA, STX, ZERO_DIGIT};
-use crate::hex::{byte_digits, frame_digit};
+use crate::hex::{byte_digits, capital, frame_digit};
 use crate::numbers::{Number, BAD_HEADER};
 
 /// "1 to 16 pairs joined by commas".
@@ -15,7 +15,7 @@ pub enum Fit {
     OwnType(u8),
 }
 
-/// One pair of a header.
+/// One pair of a header, its address characters in capitals.
 #[derive(Clone, Copy, Debug, PartialEq, Eq)]
 pub struct Pair {
     pub fit: Fit,
@@ -64,14 +64,32 @@ fn pair(text: &[u8]) -> Option<Pair> {
         [code, high, low] if is_address_character(*high) && is_address_character(*low) => {
             Some(Pair {
                 fit: fit_of(*code)?,
-                address: [*high, *low],
+                address: [capital(*high), capital(*low)],
             })
         }
         _ => None,
     }
 }
 
-/// "each 0 to 9, A to F or "?"".
+/// The capitals of a header text that reads well, in which headers are compared
+/// and written: "Headers that differ only in this count as equal". A type code is
+/// no hex digit and stays as it is.
+pub fn capitals(text: &[u8]) -> Vec<u8> {
+    let pairs: Vec<Vec<u8>> = text
+        .split(|&byte| byte == COMMA)
+        .map(capitals_of_pair)
+        .collect();
+    pairs.join(&COMMA)
+}
+
+/// The type code as it is and the capitals of the address characters.
+fn capitals_of_pair(text: &[u8]) -> Vec<u8> {
+    let (code, address) = text.split_at(text.len().min(1));
+    let address = address.iter().map(|&character| capital(character));
+    code.iter().copied().chain(address).collect()
+}
+
+/// "each 0 to 9, A to F or "?""; request 4 takes a to f too.
 fn is_address_character(byte: u8) -> bool {
     byte == ANY_DIGIT || frame_digit(byte).is_some()
 }

@@ -1,27 +1,33 @@
 //! Hex digits, read and written.
 //!
 //! The digits that a frame carries and the digits that memory stores are two
-//! ideas with one rule each, though the two rules are equal.
+//! ideas with one rule each. Request 4: "A meter vendor writes hex digits a to f in
+//! lower case." Frames may carry them; "What we store and reply stays in capitals".
 
 /// A rule that gives a digit's value, or none where the byte is no digit.
 pub type DigitRule = fn(u8) -> Option<u8>;
 
-/// A digit in a frame: "four upper-case hex digits", "two upper-case hex
-/// digits", and the digits of "7" and of a "$" list.
+/// A digit in a frame, in capitals or in small letters: "Take them in checksums,
+/// escapes, header addresses, Set Serial Address and the hex digits of
+/// configuration records."
 pub fn frame_digit(byte: u8) -> Option<u8> {
-    upper_case_digit(byte)
+    memory_digit(capital(byte))
 }
 
 /// A digit in a record in memory: "SIZE: four upper-case hex digits".
 pub fn memory_digit(byte: u8) -> Option<u8> {
-    upper_case_digit(byte)
-}
-
-fn upper_case_digit(byte: u8) -> Option<u8> {
     match byte {
         b'0'..=b'9' => Some(byte - b'0'),
         b'A'..=b'F' => Some(byte - b'A' + 10),
         _ => None,
+    }
+}
+
+/// The capital of a small letter a to f; any other byte is its own.
+pub fn capital(byte: u8) -> u8 {
+    match byte {
+        b'a'..=b'f' => byte - b'a' + b'A',
+        _ => byte,
     }
 }
 

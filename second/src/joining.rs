@@ -4,6 +4,7 @@
 use crate::body::has_read;
 use crate::forms::{form_of, put, written, Written};
 use crate::frame::{self, Frame};
+use crate::header::capitals;
 use crate::numbers::{Number, FIRST_HAS_READ, HEADERS_DIFFER};
 use crate::translation::translate;
 
@@ -27,9 +28,10 @@ fn try_join(form: u8, first: &[u8], second: &[u8], output: &mut [u8]) -> Result<
     put(form, first.header, &blocks, output)
 }
 
-/// "join: header texts differ".
+/// "join: header texts differ". Request 4: headers that differ only in small
+/// letters "count as equal in joining".
 fn check_headers(first: &Frame<'_>, second: &Frame<'_>) -> Result<(), Number> {
-    if first.header != second.header {
+    if capitals(first.header) != capitals(second.header) {
         return Err(HEADERS_DIFFER);
     }
     Ok(())

@@ -122,7 +122,8 @@ impl Settings {
         })
     }
 
-    /// ""!": "00" speaker on, "FF" off."
+    /// ""!": "00" speaker on, "FF" off." These are no hex digits: request 4 does not
+    /// list them.
     pub fn with_speaker(self, data: &[u8]) -> Option<Settings> {
         let speaker = if data == ON_TEXT {
             SPEAKER_ON
@@ -145,7 +146,8 @@ impl Settings {
         }
     }
 
-    /// ""7": two hex digits, the serial address from the next frame on."
+    /// ""7": two hex digits, the serial address from the next frame on." Request 4
+    /// takes small letters too.
     pub fn with_address(self, data: &[u8]) -> Option<Settings> {
         let digits = <[u8; 2]>::try_from(data).ok()?;
         let address = byte_value(digits, frame_digit)?;

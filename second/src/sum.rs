@@ -4,7 +4,7 @@ use crate::body::Block;
 use crate::bytes::{ETX, STX};
 
 /// "The checksum adds every byte from STX to ETX, both counted, and drops
-/// every carry out of 16 bits."
+/// every carry out of 16 bits." Request 4: "sums add the bytes as sent".
 pub fn checksum(command: u8, data: &[u8]) -> u16 {
     let ends = [STX, command, ETX];
     ends.iter()

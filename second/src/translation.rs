@@ -74,7 +74,8 @@ fn check_translated_length(bytes: &[u8]) -> Result<(), Number> {
 }
 
 /// ""_" and two upper-case hex digits stand for that byte and 20H to 7EH
-/// otherwise stand for themselves".
+/// otherwise stand for themselves". Request 4 takes small letters too: "The base
+/// example `_0a` becomes a good escape."
 fn without_escapes(raw: &[u8]) -> Result<Vec<u8>, Number> {
     let mut bytes = Vec::with_capacity(raw.len());
     let mut rest = raw;

@@ -4,6 +4,8 @@
 use super::boards::{self, make_text, message, new_label, size_of};
 use super::dates;
 use super::dice::Dice;
+use super::letter_runs;
+use super::letters::{self, Letters};
 use super::temperatures;
 use crate::bytes::{
     CLEAR_REGISTER, CONFIGURATION, DATE, LOWEST_DATA, POOL, READ_REGISTER, READ_SPECIAL,
@@ -49,11 +51,22 @@ impl Plan {
         self.end = End::Sum(checksum(self.command, &self.data));
     }
 
-    /// Gives the block a wrong checksum.
+    /// Gives the block a wrong checksum, now and then that of its capitals.
     pub fn add_wrong_sum(&mut self, dice: &mut Dice) {
         let right = checksum(self.command, &self.data);
-        let off = dice.one_of([1, 0xFFFF, 0x0100, 0x8000, 3]);
-        self.end = End::Sum(right.wrapping_add(off));
+        let folded = self.sum_of_capitals();
+        let off = dice.one_of([1, 0xFFFF, 0x0100, 0x8000, 3, 0xA000, 0xFC00]);
+        self.end = if folded != right && dice.chance(40) {
+            End::Sum(folded)
+        } else {
+            End::Sum(right.wrapping_add(off))
+        };
+    }
+
+    /// The checksum that the block would have in capitals.
+    pub fn sum_of_capitals(&self) -> u16 {
+        let folded = self.data.to_ascii_uppercase();
+        checksum(self.command.to_ascii_uppercase(), &folded)
     }
 }
 
@@ -105,7 +118,7 @@ pub fn for_board(dice: &mut Dice, sight: &mut Sight, count: usize) -> Vec<Plan> 
         let is_last = place == count;
         let plan = if dice.chance(share) {
             refused(dice, sight, is_last)
-        } else if is_last && dice.chance(18) {
+        } else if is_last && dice.chance(23) {
             no_file(dice, sight, is_last)
         } else if is_last && dice.chance(2) {
             offset_read(dice)
@@ -135,7 +148,7 @@ pub fn with_faults(dice: &mut Dice, sight: &mut Sight) -> Vec<Plan> {
             _ => plans.push(register_refused(dice, false)),
         }
     }
-    plans.push(match dice.dealt("after faults", &[6, 3, 1]) {
+    plans.push(match dice.dealt("after faults", &[6, 5, 1]) {
         0 => of_register(READING),
         1 => register_refused(dice, true),
         _ => read(dice, sight),
@@ -175,7 +188,7 @@ pub fn for_each_file(dice: &mut Dice, sight: &Sight) -> Vec<Plan> {
 
 /// Gives blocks that end with ETX alone their checksums, or some of them, and
 /// lets the last end at EOT.
-fn give_ends(dice: &mut Dice, plans: &mut [Plan]) {
+pub fn give_ends(dice: &mut Dice, plans: &mut [Plan]) {
     let sums = dice.one_of([0, 0, 50, 100]);
     for plan in plans.iter_mut() {
         if plan.end == End::Bare && dice.chance(sums) {
@@ -190,11 +203,11 @@ fn give_ends(dice: &mut Dice, plans: &mut [Plan]) {
 }
 
 /// A block that the board does.
-fn done(dice: &mut Dice, sight: &mut Sight, is_last: bool, is_first: bool) -> Plan {
+pub fn done(dice: &mut Dice, sight: &mut Sight, is_last: bool, is_first: bool) -> Plan {
     if is_first && dice.chance(30) {
         return configuration(dice, sight);
     }
-    if is_last && dice.chance(if sight.is_crowded() { 90 } else { 60 }) {
+    if is_last && dice.chance(if sight.is_crowded() { 95 } else { 80 }) {
         return read(dice, sight);
     }
     match dice.below(22) {
@@ -203,7 +216,10 @@ fn done(dice: &mut Dice, sight: &mut Sight, is_last: bool, is_first: bool) -> Pl
         13 => special(SPEAKER, &dice.one_of([*b"00", *b"FF"])),
         14 => special(TIME_FORMAT, &dice.one_of([*b"S", *b"M"])),
         15 | 16 => special(DATE, &dates::real(dice).text()),
-        17 => special(SERIAL_ADDRESS, &byte_digits(dice.byte(0, 255))),
+        17 => {
+            let digits = byte_digits(dice.byte(0, 255));
+            special(SERIAL_ADDRESS, &Letters::any(dice).of(digits))
+        }
         18 => special(TEMPERATURE_OFFSET, &temperatures::good_text(dice)),
         19 => of_register(CLEARING),
         _ => configuration(dice, sight),
@@ -273,7 +289,7 @@ fn read_code(kind: Kind) -> u8 {
 fn any_record(dice: &mut Dice, sight: &Sight) -> Option<Record> {
     let count = sight.records.len();
     let any = dice.below(count);
-    let place = if sight.is_crowded() && dice.chance(70) {
+    let place = if sight.is_crowded() && dice.chance(63) {
         dice.one_of([0, count - 1])
     } else {
         any
@@ -281,10 +297,21 @@ fn any_record(dice: &mut Dice, sight: &Sight) -> Option<Record> {
     sight.records.get(place).copied()
 }
 
-/// A read of a file that exists or of a function.
+/// A read of a file that exists or of a function. A STRING is tried for as often as a
+/// TEXT, and the functions have a deck of their own where there are many files.
 fn read(dice: &mut Dice, sight: &Sight) -> Plan {
-    match any_record(dice, sight) {
-        Some(record) if dice.chance(60) => Plan::new(read_code(record.kind), vec![record.label]),
+    let kind = dice.turn_of("kind to read", [Kind::Text, Kind::String]);
+    let mut record = any_record(dice, sight);
+    if record.is_some_and(|record| record.kind != kind) {
+        record = any_record(dice, sight);
+    }
+    let files = if sight.is_crowded() { 63 } else { 60 };
+    match record {
+        Some(record) if dice.chance(files) => Plan::new(read_code(record.kind), vec![record.label]),
+        _ if sight.is_crowded() => {
+            let label = dice.turn_of("read beside many", READ_LABELS);
+            Plan::new(READ_SPECIAL, vec![label])
+        }
         _ => {
             let label = dice.turn_of("read", READ_LABELS);
             Plan::new(READ_SPECIAL, vec![label])
@@ -309,6 +336,12 @@ fn configuration(dice: &mut Dice, sight: &mut Sight) -> Plan {
         }
     }
     sight.records = records;
+    configured(dice, list)
+}
+
+/// The block of this list, its digits in capitals or in small letters.
+fn configured(dice: &mut Dice, mut list: Vec<u8>) -> Plan {
+    Letters::any(dice).write_list(&mut list);
     special(CONFIGURATION, &list)
 }
 
@@ -322,7 +355,7 @@ fn next_records(dice: &mut Dice, sight: &Sight) -> Vec<Record> {
     boards::records(dice, sight.memory_length)
 }
 
-fn list_of(records: &[Record]) -> Vec<u8> {
+pub fn list_of(records: &[Record]) -> Vec<u8> {
     records.iter().flat_map(|r| r.to_bytes()).collect()
 }
 
@@ -334,10 +367,10 @@ fn refused(dice: &mut Dice, sight: &Sight, is_last: bool) -> Plan {
     if dice.chance(18) {
         return special(DATE, &dates::wrong(dice).text());
     }
-    if dice.chance(8) {
+    if dice.chance(9) {
         return special(TEMPERATURE_OFFSET, &temperatures::wrong_text(dice));
     }
-    if dice.chance(8) {
+    if dice.chance(9) {
         return register_refused(dice, is_last);
     }
     let number = dice.between(20, 27);
@@ -465,7 +498,16 @@ fn malformed(dice: &mut Dice, sight: &Sight, is_last: bool) -> Plan {
         ),
         2 => special(
             SPEAKER,
-            dice.one_of([b"0F".as_slice(), b"ff", b"0", b"000", b"01", b""]),
+            dice.one_of([
+                b"0F".as_slice(),
+                b"ff",
+                b"fF",
+                b"Ff",
+                b"0",
+                b"000",
+                b"01",
+                b"",
+            ]),
         ),
         3 => special(
             TIME_FORMAT,
@@ -486,9 +528,13 @@ fn malformed(dice: &mut Dice, sight: &Sight, is_last: bool) -> Plan {
             ]),
         ),
         5 => special(TEMPERATURE_OFFSET, &temperatures::wrong_text(dice)),
+        6 => special(
+            SERIAL_ADDRESS,
+            &letters::pair_beside(dice, "beside a serial address"),
+        ),
         _ => special(
             SERIAL_ADDRESS,
-            dice.one_of([b"1".as_slice(), b"100", b"1g", b"1G", b"a1", b"?0", b""]),
+            dice.one_of([b"1".as_slice(), b"100", b"a", b"abc", b"?0", b""]),
         ),
     }
 }
@@ -505,11 +551,11 @@ fn no_file(dice: &mut Dice, sight: &Sight, is_last: bool) -> Plan {
 }
 
 /// A type and a label that no file has together: the label of a file of the
-/// other type, of a file that a list took away, of none, or a byte that is no
-/// label. Each way with either type comes in its turn, dealt from the deck of this
+/// other type, of a file that a list took away, of a file in the other case, of
+/// none, or a byte that is no label. Each way with either type comes in its turn, dealt from the deck of this
 /// name.
 fn file_of_none(dice: &mut Dice, sight: &Sight, deck: &'static str) -> (Kind, u8) {
-    let card = dice.dealt(deck, &[1; 24]);
+    let card = dice.dealt(deck, &[1; 26]);
     let any_kind = [Kind::Text, Kind::String][card % 2];
     let free = new_label(dice, &sight.records);
     let is_here = |gone: &Record| sight.records.iter().any(|here| here.label == gone.label);
@@ -520,9 +566,20 @@ fn file_of_none(dice: &mut Dice, sight: &Sight, deck: &'static str) -> (Kind, u8
         7 => Some((any_kind, b'?')),
         8 | 9 => Some((any_kind, below_labels(dice))),
         10 => Some((any_kind, above_labels(dice, sight))),
+        11 => other_case_of_none(dice, sight),
         _ => None,
     };
     of_file.unwrap_or((any_kind, free))
+}
+
+/// The type of a file and its label in the other case, which no file has.
+fn other_case_of_none(dice: &mut Dice, sight: &Sight) -> Option<(Kind, u8)> {
+    let is_free = |label: u8| sight.records.iter().all(|here| here.label != label);
+    let is_meant = |here: &Record| {
+        here.label.is_ascii_alphabetic() && is_free(letters::other_case(here.label))
+    };
+    let (kind, label) = one_where(dice, &sight.records, is_meant)?;
+    Some((kind, letters::other_case(label)))
 }
 
 /// The type and the label of one of the records that are meant.
@@ -576,8 +633,8 @@ fn bad_list(dice: &mut Dice, sight: &Sight) -> Plan {
         4 => list.extend(b"XAU0000FF00YAU0001FF00"),
         5 => list.extend(b"XAU0001FC00"),
         6 => list.extend(b"XAU0001FF90"),
-        7 => list.extend(b"XAU0001ff00"),
-        8 => list.extend(b"XAU000aFF00"),
+        7 => list.extend(dice.one_of([b"XaU0001FF00", b"XbL00010000"])),
+        8 => list.extend(dice.one_of([b"XAu0001FF00", b"XBl00010000"])),
         9 => list.extend(b"XBL00010100"),
         10 => list.extend(b"mDU073C1000"),
         11 => list.extend(b"0AU0001FF00"),
@@ -587,11 +644,12 @@ fn bad_list(dice: &mut Dice, sight: &Sight) -> Plan {
         15..=18 => list = list_of(&crowd_of_records(dice, sight, MOST_FILES + 1)),
         _ => {
             list.extend(b"XAU0001FF00");
-            let last = list.len() - dice.between(1, 11);
-            list[last] = dice.one_of([b'G', b'g', LOWEST_DATA, 0xFF]);
+            let last = list.len() - dice.between(1, 8);
+            let beside = letters::beside(dice, "beside a list");
+            list[last] = dice.one_of([beside, beside, LOWEST_DATA, 0xFF]);
         }
     }
-    special(CONFIGURATION, &list)
+    configured(dice, list)
 }
 
 /// 26: the first label again, of the same type or of the other.
@@ -608,7 +666,7 @@ fn label_twice(dice: &mut Dice, sight: &Sight) -> Plan {
         again.stop = 0;
     }
     records.push(again);
-    special(CONFIGURATION, &list_of(&records))
+    configured(dice, list_of(&records))
 }
 
 /// 27: a size that is just too large, or a last TEXT with nothing left.
@@ -624,11 +682,12 @@ fn no_room(dice: &mut Dice, sight: &Sight) -> Plan {
         record.size = size_of(room - RECORD_LENGTH);
         rest.label = new_label(dice, &[record]);
         rest.size = 0;
-        return special(CONFIGURATION, &list_of(&[record, rest]));
+        return configured(dice, list_of(&[record, rest]));
     }
-    let more = dice.one_of([1, 1, 100, 0x7000]);
+    let far = dice.between(0x7000, 0xFFFF);
+    let more = dice.one_of([1, 1, 100, far]);
     record.size = size_of(room + more);
-    special(CONFIGURATION, &list_of(&[record]))
+    configured(dice, list_of(&[record]))
 }
 
 /// 27: a list of 64 records, the last of which is one byte too large where the
@@ -640,7 +699,7 @@ fn no_room_for_many(dice: &mut Dice, sight: &Sight) -> Plan {
         make_text(dice, last);
         last.size = size_of(last.content_length() + left + 1);
     }
-    special(CONFIGURATION, &list_of(&records))
+    configured(dice, list_of(&records))
 }
 
 /// So many records, whether or not memory has room for them.
@@ -681,6 +740,9 @@ pub fn for_anybody(dice: &mut Dice, count: usize, may_end_with_read: bool) -> Ve
         }
         match plan.command {
             WRITE_SPECIAL if dice.chance(20) => plan = of_register(CLEARING),
+            WRITE_SPECIAL if count <= 8 && dice.chance(30) => {
+                plan.data = letter_runs::list_data(dice);
+            }
             READ_SPECIAL if dice.chance(50) => plan = of_register(READING),
             _ => {}
         }

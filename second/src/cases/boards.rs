@@ -34,7 +34,7 @@ const SMALL_MEMORY: usize = 600;
 
 /// A sound board: most times a few files in a small memory.
 pub fn sound(dice: &mut Dice) -> Board {
-    let (length, records) = match dice.dealt("board", &[24, 1, 1, 74]) {
+    let (length, records) = match dice.dealt("board", &[27, 1, 1, 71]) {
         0 => crowded(dice),
         1 => (LEAST_MEMORY, Vec::new()),
         2 => (MOST_MEMORY, Vec::new()),
@@ -72,7 +72,7 @@ pub fn small_crowd(dice: &mut Dice) -> Board {
     board_of(dice, length, records)
 }
 
-fn board_of(dice: &mut Dice, length: usize, records: Vec<Record>) -> Board {
+pub fn board_of(dice: &mut Dice, length: usize, records: Vec<Record>) -> Board {
     let mut board = Board {
         settings: settings(dice, count_of(&records)),
         memory: memory_of(dice, length, &records),
@@ -290,10 +290,12 @@ pub fn new_label(dice: &mut Dice, others: &[Record]) -> u8 {
     for _ in 0..8 {
         let any = dice.byte(FIRST_LABEL, LAST_LABEL);
         let letter = dice.byte(b'A', b'F');
+        let small = dice.byte(b'a', b'f');
         let end = dice.one_of([FIRST_LABEL, LAST_LABEL]);
         let label = match dice.below(12) {
             0 | 1 => end,
             2..=5 => any,
+            6 | 7 => small,
             _ => letter,
         };
         if is_free(label) {

@@ -40,10 +40,13 @@ pub fn real(dice: &mut Dice) -> Date {
     Date { month, day, year }
 }
 
-/// A date that does not exist, mostly the day after the last of its month.
+/// A date that does not exist, mostly the day after the last of its month. Every
+/// month of either sort of year comes in its turn, February more often than others.
 pub fn wrong(dice: &mut Dice) -> Date {
-    let month = month(dice);
-    let year = year(dice);
+    const MONTHS: [usize; 12] = [1, 3, 1, 1, 1, 1, 1, 1, 1, 1, 1, 1];
+    let card = dice.dealt("wrong date", &[MONTHS, MONTHS].concat());
+    let month = (card % 12) as u8 + 1;
+    let year = year_of(dice, card < 12);
     let last = last_day(month, year);
     let (month, day) = match dice.below(16) {
         0 => (month, 0),
@@ -66,9 +69,15 @@ fn month(dice: &mut Dice) -> u8 {
 /// A year of two digits: divisible by four in half of the draws, and of either
 /// sort often the first or the last.
 fn year(dice: &mut Dice) -> u8 {
+    let is_fourth = dice.chance(50);
+    year_of(dice, is_fourth)
+}
+
+/// The same of one sort.
+fn year_of(dice: &mut Dice, is_fourth: bool) -> u8 {
     let fourth = 4 * dice.byte(0, 24);
     let other = fourth + dice.byte(1, 3);
-    if dice.chance(50) {
+    if is_fourth {
         dice.one_of([0, 96, fourth])
     } else {
         dice.one_of([1, 99, other])

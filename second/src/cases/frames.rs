@@ -2,8 +2,9 @@
 
 use super::blocks::{End, Plan};
 use super::dice::Dice;
-use crate::bytes::{ANY_DIGIT, COMMA, EOT, ETX, LOWEST_DATA, NUL, SOH, STX};
-use crate::forms::{needs_escape, push_escape};
+use super::letters::{self, Letters};
+use crate::bytes::{ANY_DIGIT, COMMA, EOT, ETX, LOWEST_DATA, NUL, SOH, STX, UNDERSCORE};
+use crate::forms::needs_escape;
 use crate::hex::{byte_digits, word_digits};
 use crate::settings::Settings;
 use crate::translation::{Way, MOST_PRINTABLE, MOST_TRANSLATED};
@@ -15,6 +16,8 @@ pub struct Sketch {
     pub lead: Vec<u8>,
     pub header: Vec<u8>,
     pub plans: Vec<Plan>,
+    /// Those of its sums and of its escapes.
+    pub letters: Letters,
 }
 
 impl Sketch {
@@ -27,6 +30,7 @@ impl Sketch {
             lead,
             header,
             plans,
+            letters: Letters::any(dice),
         }
     }
 
@@ -42,7 +46,7 @@ impl Sketch {
                 End::Bare => bytes.push(ETX),
                 End::Sum(sum) => {
                     bytes.push(ETX);
-                    bytes.extend(word_digits(sum));
+                    bytes.extend(self.letters.of(word_digits(sum)));
                 }
             }
         }
@@ -52,7 +56,26 @@ impl Sketch {
 
     /// The frame as it is sent.
     pub fn sent(&self, dice: &mut Dice) -> Vec<u8> {
-        as_sent(dice, self.way, &self.translated())
+        self.as_sent(dice, &self.translated())
+    }
+
+    /// The bytes as they are sent; a printable frame also has escapes that it does
+    /// not need.
+    fn as_sent(&self, dice: &mut Dice, translated: &[u8]) -> Vec<u8> {
+        if self.way == Way::Standard {
+            return translated.to_vec();
+        }
+        let needless = dice.one_of([0, 0, 10, 100]);
+        let mut bytes = Vec::new();
+        for (place, &byte) in translated.iter().enumerate() {
+            if place > 0 && !needs_escape(byte) && !dice.chance(needless) {
+                bytes.push(byte);
+            } else {
+                bytes.push(UNDERSCORE);
+                bytes.extend(self.letters.of(byte_digits(byte)));
+            }
+        }
+        bytes
     }
 
     /// Makes the frame so many translated bytes long, by its last data or by
@@ -118,24 +141,6 @@ fn wrong_lead(dice: &mut Dice, way: Way) -> Vec<u8> {
     }
 }
 
-/// The bytes as they are sent; a printable frame also has escapes that it does
-/// not need.
-fn as_sent(dice: &mut Dice, way: Way, translated: &[u8]) -> Vec<u8> {
-    if way == Way::Standard {
-        return translated.to_vec();
-    }
-    let needless = dice.one_of([0, 0, 10, 100]);
-    let mut bytes = Vec::new();
-    for (place, &byte) in translated.iter().enumerate() {
-        if place > 0 && !needs_escape(byte) && !dice.chance(needless) {
-            bytes.push(byte);
-        } else {
-            push_escape(&mut bytes, byte);
-        }
-    }
-    bytes
-}
-
 /// A header that reaches the board, by one pair or among others.
 pub fn reaching_header(dice: &mut Dice, settings: Settings) -> Vec<u8> {
     let mut pairs = vec![fitting_pair(dice, settings)];
@@ -145,7 +150,7 @@ pub fn reaching_header(dice: &mut Dice, settings: Settings) -> Vec<u8> {
             pairs.insert(place, any_pair(dice));
         }
     }
-    joined(&pairs)
+    lettered(dice, &pairs)
 }
 
 fn fitting_pair(dice: &mut Dice, settings: Settings) -> [u8; 3] {
@@ -166,22 +171,23 @@ pub fn missing_header(dice: &mut Dice, settings: Settings) -> Vec<u8> {
     let [high, low] = byte_digits(settings.address);
     let other_digit = dice.one_of([b'0', b'7', b'F']);
     let own = settings.own_type;
-    let pair = match dice.below(6) {
+    let pair = match dice.below(7) {
         0 => [b'0', b'0', b'0'],
         1 => [0x22, ANY_DIGIT, ANY_DIGIT],
         2 => [dice.one_of([b'1', b'2', b'C', b'u']), b'0', b'0'],
         3 => [own, high, other_digit],
         4 => [b'Z', other_digit, low],
+        5 => [letters::cased_type(dice), b'0', b'0'],
         _ => [b'Z', b'0', ANY_DIGIT],
     };
-    joined(&[pair])
+    lettered(dice, &[pair])
 }
 
 fn any_pair(dice: &mut Dice) -> [u8; 3] {
-    const CODES: [u8; 12] = [
-        b'!', 0x22, b'#', b'&', b'0', b'1', b'C', b'U', b'^', b'a', b'r', b'u',
+    const CODES: [u8; 15] = [
+        b'!', 0x22, b'#', b'&', b'0', b'1', b'C', b'D', b'U', b'^', b'a', b'c', b'd', b'r', b'u',
     ];
-    const CHARACTERS: [u8; 6] = [b'0', b'1', b'9', b'A', b'F', ANY_DIGIT];
+    const CHARACTERS: [u8; 7] = [b'0', b'1', b'9', b'A', b'C', b'F', ANY_DIGIT];
     [
         dice.one_of(CODES),
         dice.one_of(CHARACTERS),
@@ -193,6 +199,13 @@ fn joined(pairs: &[[u8; 3]]) -> Vec<u8> {
     pairs.join(&COMMA)
 }
 
+/// The header of these pairs, its addresses in capitals or in small letters.
+fn lettered(dice: &mut Dice, pairs: &[[u8; 3]]) -> Vec<u8> {
+    let mut header = joined(pairs);
+    Letters::any(dice).write_header(&mut header);
+    header
+}
+
 /// Any header that reads well.
 pub fn good_header(dice: &mut Dice) -> Vec<u8> {
     let count = match dice.below(10) {
@@ -201,7 +214,14 @@ pub fn good_header(dice: &mut Dice) -> Vec<u8> {
         _ => 16,
     };
     let pairs: Vec<[u8; 3]> = (0..count).map(|_| any_pair(dice)).collect();
-    joined(&pairs)
+    lettered(dice, &pairs)
+}
+
+/// A header with a byte beside the letters that are digits.
+pub fn header_beside(dice: &mut Dice, deck: &'static str) -> Vec<u8> {
+    let code = dice.one_of(*b"ZCca");
+    let [high, low] = letters::pair_beside(dice, deck);
+    vec![code, high, low]
 }
 
 /// A header that does not read well.
@@ -215,8 +235,7 @@ pub fn bad_header(dice: &mut Dice) -> Vec<u8> {
         4 => [vec![COMMA], good].concat(),
         5 => b"Z0".to_vec(),
         6 => b"Z000".to_vec(),
-        7 => b"Z0a".to_vec(),
-        8 => b"Z0G".to_vec(),
+        7 | 8 => header_beside(dice, "bad header"),
         9 => vec![
             dice.one_of([0x60, 0x73, 0x76, 0x27, 0x5F, 0x05, 0xFF]),
             b'0',
@@ -260,10 +279,10 @@ fn bad_body(dice: &mut Dice, mut sketch: Sketch) -> Vec<u8> {
         Some(plan) if fault == 1 => plan.data.push(dice.byte(0, 1)),
         Some(plan) if fault == 2 && !is_last => plan.end = End::Open,
         Some(plan) if fault == 3 => {
-            plan.end = End::Bare;
-            let digits = dice.one_of([*b"00c4", *b"01FG", *b" 1FB"]);
+            let digits = sum_beside(dice, "bad sum");
             plan.data.push(ETX);
-            plan.data.extend(digits);
+            plan.data.extend(dice.one_of([digits, digits, *b" 1FB"]));
+            plan.end = End::Open;
         }
         _ => {}
     }
@@ -284,7 +303,14 @@ fn bad_body(dice: &mut Dice, mut sketch: Sketch) -> Vec<u8> {
         }
         _ => {}
     }
-    as_sent(dice, sketch.way, &bytes)
+    sketch.as_sent(dice, &bytes)
+}
+
+/// The digits of a sum, one of them a byte beside the letters.
+pub fn sum_beside(dice: &mut Dice, deck: &'static str) -> [u8; 4] {
+    let mut digits = dice.one_of([*b"01FB", *b"01fb", *b"00C4"]);
+    digits[dice.below(4)] = letters::beside(dice, deck);
+    digits
 }
 
 /// A read before another block.
@@ -303,17 +329,12 @@ fn read_too_soon(dice: &mut Dice, mut sketch: Sketch) -> Vec<u8> {
 }
 
 /// A printable frame with a bad escape or a byte that may not be there.
-fn bad_printable(dice: &mut Dice, mut sketch: Sketch) -> Vec<u8> {
-    if sketch.way == Way::Standard {
-        sketch.way = Way::Printable;
-        sketch.lead = good_lead(dice, Way::Printable);
-    }
-    let mut bytes = sketch.sent(dice);
+fn bad_printable(dice: &mut Dice, sketch: Sketch) -> Vec<u8> {
     let fault = dice.one_of([
         b"_".as_slice(),
         b"_0",
-        b"_0a",
-        b"_g0",
+        b"",
+        b"",
         b"__",
         b"\x1F",
         b"\x7F",
@@ -321,6 +342,10 @@ fn bad_printable(dice: &mut Dice, mut sketch: Sketch) -> Vec<u8> {
         b"\x00",
         b"\x04",
     ]);
+    if fault.is_empty() {
+        return with_escape_beside(dice, sketch, "bad escape");
+    }
+    let mut bytes = printable(dice, sketch);
     let place = dice.between(1, bytes.len());
     let tail = bytes.split_off(place);
     bytes.extend_from_slice(fault);
@@ -328,6 +353,29 @@ fn bad_printable(dice: &mut Dice, mut sketch: Sketch) -> Vec<u8> {
         bytes.extend(tail);
     }
     bytes
+}
+
+/// A printable frame with an escape in which a byte beside the letters stands for a
+/// digit.
+pub fn with_escape_beside(dice: &mut Dice, sketch: Sketch, deck: &'static str) -> Vec<u8> {
+    let mut bytes = printable(dice, sketch);
+    let escapes: Vec<usize> = (0..bytes.len())
+        .filter(|&place| bytes[place] == UNDERSCORE)
+        .collect();
+    let digits = letters::pair_beside(dice, deck);
+    if let Some(&place) = escapes.get(dice.below(escapes.len())) {
+        bytes[place + 1..place + 3].copy_from_slice(&digits);
+    }
+    bytes
+}
+
+/// The frame as it is sent in the printable form.
+fn printable(dice: &mut Dice, mut sketch: Sketch) -> Vec<u8> {
+    if sketch.way == Way::Standard {
+        sketch.way = Way::Printable;
+        sketch.lead = good_lead(dice, Way::Printable);
+    }
+    sketch.sent(dice)
 }
 
 /// A frame at the edge of one of the lengths, or over it.

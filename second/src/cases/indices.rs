@@ -36,7 +36,7 @@ fn near(dice: &mut Dice, board: &Board) -> Index {
 fn beside(dice: &mut Dice, board: &Board, file: &File) -> u16 {
     let right = entry(file.place);
     let another = place_of_any(dice, board).unwrap_or(NO_PLACE);
-    let edge = edge(dice, board);
+    let edge = edge(dice, board, "edge beside");
     let choices = [
         right.wrapping_add(1),
         right.wrapping_sub(1),
@@ -55,18 +55,21 @@ fn beside(dice: &mut Dice, board: &Board, file: &File) -> u16 {
 
 /// An entry for a label that no file has.
 fn stray(dice: &mut Dice, board: &Board) -> u16 {
-    let of_a_file = place_of_any(dice, board).unwrap_or(0);
-    let edge = edge(dice, board);
-    dice.turn_of(
-        deck_of(board, ["stray", "stray without files"]),
-        [of_a_file, 0, edge, edge],
-    )
+    let deck = deck_of(board, ["stray", "stray without files"]);
+    match dice.dealt(deck, &[1, 1, 2]) {
+        0 => place_of_any(dice, board).unwrap_or(0),
+        1 => 0,
+        _ => {
+            let deck = deck_of(board, ["edge", "edge without files"]);
+            edge(dice, board, deck)
+        }
+    }
 }
 
 /// A place at an end: the first byte behind the last file, the last byte of
 /// memory, the first behind that and the next one, and the number before FFFFH;
-/// or any number.
-fn edge(dice: &mut Dice, board: &Board) -> u16 {
+/// or any number. Dealt from the deck of this name.
+fn edge(dice: &mut Dice, board: &Board, deck: &'static str) -> u16 {
     let end = entry(board.memory.len());
     let any = entry(dice.between(0, usize::from(NO_PLACE)));
     let behind = end - board.settings.unused;
@@ -80,7 +83,7 @@ fn edge(dice: &mut Dice, board: &Board) -> u16 {
         NO_PLACE - 1,
         any,
     ];
-    dice.turn_of(deck_of(board, ["edge", "edge without files"]), choices)
+    dice.turn_of(deck, choices)
 }
 
 /// The first of two decks for a board with files, the other for one without, so

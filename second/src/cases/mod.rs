@@ -8,6 +8,8 @@ pub mod dice;
 pub mod frames;
 pub mod full_dates;
 pub mod indices;
+pub mod letter_runs;
+pub mod letters;
 pub mod reckoning;
 pub mod registers;
 pub mod temperatures;
@@ -18,8 +20,9 @@ use std::iter;
 use self::blocks::{Plan, Sight};
 use self::dice::Dice;
 use self::frames::Sketch;
+use self::letters::Letters;
 use crate::body::MOST_BLOCKS;
-use crate::bytes::LOWEST_DATA;
+use crate::bytes::{LOWEST_DATA, WRITE_SPECIAL};
 use crate::run::REPLY_MARGIN;
 use crate::soundness::{LEAST_MEMORY, MOST_MEMORY};
 use crate::stream::{
@@ -29,10 +32,10 @@ use crate::stream::{
 use crate::translation::{MOST_PRINTABLE, MOST_TRANSLATED};
 
 /// How often each call is made in 720 cases, in the order of [`CALLS`].
-const WEIGHTS: [usize; CALLS.len()] = [34, 277, 60, 85, 83, 75, 28, 37, 25, 16];
+const WEIGHTS: [usize; CALLS.len()] = [34, 280, 60, 84, 83, 75, 27, 36, 25, 16];
 
-/// How often each sort of run is made in 196 runs, in the order of [`run_case`].
-const RUNS: [usize; 8] = [106, 18, 11, 21, 4, 4, 10, 22];
+/// How often each sort of run is made in 228 runs, in the order of [`run_case`].
+const RUNS: [usize; 9] = [105, 20, 11, 26, 5, 5, 12, 22, 22];
 
 /// Writes so many cases, of these calls only.
 pub fn write_cases(
@@ -109,6 +112,7 @@ fn run_case(dice: &mut Dice) -> Case {
         4 => wrong_offset_run(dice),
         5 => wrong_register_run(dice),
         6 => faults_run(dice),
+        7 => letter_runs::any(dice),
         _ => any_run(dice),
     }
 }
@@ -225,12 +229,18 @@ fn run_on(dice: &mut Dice, board: boards::Board, count: usize) -> Case {
 
 /// A run of this frame, with a reply buffer that is long enough.
 fn run_of(dice: &mut Dice, board: boards::Board, sketch: Sketch) -> Case {
+    let frame = sketch.sent(dice);
+    with_frame(dice, board, frame)
+}
+
+/// A run of these bytes, with a reply buffer that is long enough.
+fn with_frame(dice: &mut Dice, board: boards::Board, frame: Vec<u8>) -> Case {
     let more = dice.one_of([0, 0, 0, 1, 16]);
     Case::Run {
         settings: board.settings,
         reply: filler(dice, board.memory.len() + REPLY_MARGIN + more),
         memory: board.memory,
-        frame: sketch.sent(dice),
+        frame,
     }
 }
 
@@ -277,7 +287,10 @@ fn write_case(dice: &mut Dice) -> Case {
         0..=5 => edge_length(dice, header.len() + 9),
         _ => dice.below(60),
     };
-    let mut data = boards::message(dice, length);
+    let mut data = match command {
+        WRITE_SPECIAL if dice.chance(50) => letter_runs::list_data(dice),
+        _ => boards::message(dice, length),
+    };
     if dice.chance(8) {
         let place = dice.below(data.len() + 1);
         data.insert(place, dice.one_of([0, 1, 2, 3, 4, 5]));
@@ -320,8 +333,16 @@ fn join_case(dice: &mut Dice) -> Case {
     let first_may_read = dice.chance(25);
     let mut first = any_sketch(dice, first_may_read);
     let mut second = any_sketch(dice, true);
-    if !dice.chance(12) {
-        second.header = first.header.clone();
+    match dice.dealt("headers of two", &[3, 2, 22]) {
+        0 => {}
+        1 => {
+            second.header = first.header.clone();
+            letters::part_by_type(dice, &mut first.header, &mut second.header);
+        }
+        _ => {
+            second.header = first.header.clone();
+            Letters::any(dice).write_header(&mut second.header);
+        }
     }
     match dice.below(40) {
         0..=3 => crowd(dice, &mut first, &mut second),

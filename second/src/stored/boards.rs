@@ -314,8 +314,8 @@ impl List {
         let printable = b"_01Z00_02AAHELLO_04";
         self.blocks("the printable HELLO", DONE, &kit, printable);
         self.blocks("Table 34 on the same board", DONE, &kit, source::TABLE_34);
-        let lower_case = b"_01Z00_02AA_0a_04";
-        self.run("_0a is 5", BAD_PRINTABLE, &kit, lower_case);
+        let small = b"_01Z00_02AA_0a_04";
+        self.blocks("_0a is a good escape", DONE, &kit, small);
         let wrong = b"\0\0\0\0\0\x01Z00\x02AAHELLO\x0301FC\x02E'M\x03\x04";
         self.blocks("sum 01FC for HELLO", WRONG_SUM, &kit, wrong);
     }
@@ -626,7 +626,7 @@ impl List {
             (b"", BAD_HEADER),
             (b"Z0", BAD_HEADER),
             (b"Z000", BAD_HEADER),
-            (b"Z0a", BAD_HEADER),
+            (b"Z0a", NOT_ADDRESSED),
             (b"Z00,", BAD_HEADER),
             (b"Z00,z00", BAD_HEADER),
             (b"`00", BAD_HEADER),
@@ -706,7 +706,7 @@ impl List {
             (b"E;0131000", MALFORMED),
             (b"E700", DONE),
             (b"E7FF", DONE),
-            (b"E7ff", MALFORMED),
+            (b"E7ff", DONE),
             (b"E7F", MALFORMED),
             (b"E7FFF", MALFORMED),
             (b"E7FG", MALFORMED),
@@ -762,7 +762,7 @@ impl List {
             (b"ADU0010FF00", BAD_LIST),
             (b"AAX0010FF00", BAD_LIST),
             (b"AAL0010FF00", DONE),
-            (b"AAU001aFF00", BAD_LIST),
+            (b"AAU001aFF00", DONE),
             (b"AAU00108F8F", DONE),
             (b"AAU00109000", BAD_LIST),
             (b"AAU0010FC00", BAD_LIST),

@@ -49,12 +49,52 @@ pub fn with_wrong_sum(header: &[u8], blocks: &[&[u8]]) -> Vec<u8> {
 
 /// STX, a command and its data, ETX, checksum.
 fn with_sum(block: &[u8]) -> Vec<u8> {
-    let mut bytes = vec![STX];
-    bytes.extend_from_slice(block);
-    bytes.push(ETX);
-    let sum: u32 = bytes.iter().map(|&byte| u32::from(byte)).sum();
-    bytes.extend(word_digits((sum % 0x1_0000) as u16));
+    let digits = word_digits(sum_of(block));
+    [&[STX], block, &[ETX], &digits].concat()
+}
+
+/// The checksum of a command and its data.
+fn sum_of(block: &[u8]) -> u16 {
+    let sum: u32 = block.iter().map(|&byte| u32::from(byte)).sum();
+    ((u32::from(STX) + sum + u32::from(ETX)) % 0x1_0000) as u16
+}
+
+/// The same frame as [`summed`], its sums in small letters.
+pub fn summed_small(header: &[u8], blocks: &[&[u8]]) -> Vec<u8> {
+    let with_sums = blocks.iter().map(|block| {
+        let digits = small(&word_digits(sum_of(block)));
+        [&[STX], *block, &[ETX], &digits].concat()
+    });
+    let mut bytes = [b"\0\0\0\0\0\x01", header].concat();
+    bytes.extend(with_sums.flatten());
+    bytes.push(EOT);
     bytes
+}
+
+/// A frame of one block with the sum of another, in small letters.
+pub fn summed_over(header: &[u8], block: &[u8], other: &[u8]) -> Vec<u8> {
+    let mut bytes = plain(header, &[block]);
+    bytes.pop();
+    bytes.push(ETX);
+    bytes.extend(small(&word_digits(sum_of(other))));
+    bytes.push(EOT);
+    bytes
+}
+
+/// The letters A to F as small ones.
+pub fn small(bytes: &[u8]) -> Vec<u8> {
+    bytes
+        .iter()
+        .map(|&byte| match byte {
+            b'A'..=b'F' => byte.to_ascii_lowercase(),
+            _ => byte,
+        })
+        .collect()
+}
+
+/// Every byte as an escape in small letters.
+pub fn escaped_small(translated: &[u8]) -> Vec<u8> {
+    small(&escaped(translated))
 }
 
 /// A frame with five NUL, without them.

@@ -15,6 +15,7 @@ pub mod outputs;
 pub mod port_errors;
 pub mod registers;
 pub mod renewals;
+pub mod small_letters;
 pub mod temperatures;
 pub mod unused;
 pub mod weekdays;
@@ -48,12 +49,13 @@ impl Stored {
 
 /// All fixed cases: writing, re-forming and joining first, then the boards,
 /// the full ones behind the others, then the dates of boards, their unused
-/// amounts, the files that they find, their indices, their temperature offsets and
-/// their registers, then the calls that reckon with dates and with degrees, and
-/// last the port driver's.
+/// amounts, the files that they find, their indices, their temperature offsets,
+/// their registers and small letters, then the calls that reckon with dates and with
+/// degrees, and last the port driver's.
 pub fn all() -> Vec<Stored> {
     let mut cases = outputs::all();
     cases.extend(registers::outputs());
+    cases.extend(small_letters::outputs());
     cases.extend(boards::all());
     cases.extend(full::all());
     cases.extend(dates::all());
@@ -62,6 +64,7 @@ pub fn all() -> Vec<Stored> {
     cases.extend(index::all());
     cases.extend(offsets::all());
     cases.extend(registers::all());
+    cases.extend(small_letters::all());
     cases.extend(renewals::all());
     cases.extend(weekdays::all());
     cases.extend(days_between::all());

@@ -26,6 +26,8 @@ const PRINTABLE_REST: usize = 12;
 /// A form 3 result of 8,192 translated bytes: the data, SOH, STX, ETX and EOT
 /// as escapes, the header, the command and the four digits as they are.
 const LONGEST_PRINTABLE: usize = 3 * (MOST - PRINTABLE_REST) + 3 * 4 + 8;
+/// A header with a small letter, which request 4 takes.
+const SMALL_HEADER: &[u8] = b"Z0a";
 
 pub fn all() -> Vec<Stored> {
     let mut list = List::default();
@@ -134,8 +136,8 @@ impl List {
         );
         let printable = b"_01Z00_02AAHELLO_04";
         self.reform("the printable HELLO", DONE, 1, printable, 40);
-        let lower_case = b"_01Z00_02AA_0aHELLO_04";
-        self.reform("_0a is 5", BAD_PRINTABLE, 1, lower_case, 40);
+        let small = b"_01Z00_02AA_0aHELLO_04";
+        self.reform("_0a is a good escape", DONE, 1, small, 40);
     }
 
     /// Each of the source's frames into each form.
@@ -306,9 +308,10 @@ impl List {
             let call = (form, b"Z00".as_slice(), b'A', b"AHELLO".as_slice());
             self.write("a form", DONE, call, 40);
         }
-        for header in bad_headers() {
+        for header in odd_headers() {
+            let number = header_number(&header);
             let call = (1, header.as_slice(), b'A', b"A".as_slice());
-            self.write("a bad header", BAD_HEADER, call, 90);
+            self.write("an odd header", number, call, 90);
         }
         for header in good_headers() {
             let call = (1, header.as_slice(), b'A', b"A".as_slice());
@@ -365,8 +368,8 @@ impl List {
         for fault in faults() {
             let header = fault.header;
             let other = plain(header, &[b"AAHELLO"]);
-            self.join(fault.about, fault.number, (2, &fault.frame, &other), 100);
-            self.join(fault.about, fault.number, (2, &other, &fault.frame), 100);
+            self.join(fault.about, fault.joined, (2, &fault.frame, &other), 100);
+            self.join(fault.about, fault.joined, (2, &other, &fault.frame), 100);
             self.join(fault.about, DONE, (2, &other, &fault.neighbour), 120);
         }
         self.join(
@@ -413,14 +416,14 @@ impl List {
     }
 }
 
-/// Headers that are 6.
-fn bad_headers() -> Vec<Vec<u8>> {
+/// Headers that are 6, but for the one with a small letter.
+fn odd_headers() -> Vec<Vec<u8>> {
     let mut headers: Vec<Vec<u8>> = [
         b"".as_slice(),
         b"z00",
         b"Z0",
         b"Z000",
-        b"Z0a",
+        SMALL_HEADER,
         b"Z0G",
         b"Z00,",
         b",Z00",
@@ -436,6 +439,15 @@ fn bad_headers() -> Vec<Vec<u8>> {
     .collect();
     headers.push(pairs(17));
     headers
+}
+
+/// The number that the writer has for one of these.
+fn header_number(header: &[u8]) -> Number {
+    if header == SMALL_HEADER {
+        DONE
+    } else {
+        BAD_HEADER
+    }
 }
 
 /// Their good neighbours.
@@ -465,10 +477,12 @@ fn good_headers() -> Vec<Vec<u8>> {
     headers
 }
 
-/// A frame that is refused and one beside it that is not.
+/// A frame that is refused, or was before request 4, and one beside it that is not.
 struct Fault {
     about: &'static str,
     number: Number,
+    /// Its number in joining.
+    joined: Number,
     frame: Vec<u8>,
     neighbour: Vec<u8>,
     /// The header that both have, for joining.
@@ -479,13 +493,14 @@ fn fault(about: &'static str, number: Number, frame: &[u8], neighbour: &[u8]) ->
     Fault {
         about,
         number,
+        joined: number,
         frame: frame.to_vec(),
         neighbour: neighbour.to_vec(),
         header: b"Z00",
     }
 }
 
-/// Each of 3 to 8 and 17, with a good neighbour.
+/// Each of 3 to 8 and 17, and what request 4 takes, with a good neighbour.
 fn faults() -> Vec<Fault> {
     const HELLO: &[u8] = b"\0\0\0\0\0\x01Z00\x02AAHELLO\x04";
     let mut faults = vec![
@@ -524,8 +539,8 @@ fn faults() -> Vec<Fault> {
             b"_00_01Z00_02AAHELLO_04",
         ),
         fault(
-            "a lower-case escape",
-            BAD_PRINTABLE,
+            "a small letter in an escape",
+            DONE,
             b"_01Z00_02AA_0aHELLO_04",
             b"_01Z00_02AA_0AHELLO_04",
         ),
@@ -598,8 +613,8 @@ fn faults() -> Vec<Fault> {
             b"\0\0\0\0\0\x01Z00\x02AAHELLO\x03\x04",
         ),
         fault(
-            "lower-case digits",
-            BAD_BODY,
+            "small letters in a sum",
+            DONE,
             b"\0\0\0\0\0\x01Z00\x02AAHELLO\x0301fb\x04",
             b"_01Z00_02AAHELLO_03_301F_42_04",
         ),
@@ -634,19 +649,27 @@ fn faults() -> Vec<Fault> {
             b"_01Z00_02AA_1B b_030124_04",
         ),
     ];
-    for header in bad_headers() {
+    for header in odd_headers() {
         let frame = plain(&header, &[b"AAHELLO"]);
         let number = if header.contains(&2) {
             BAD_BODY
         } else {
-            BAD_HEADER
+            header_number(&header)
         };
-        faults.push(fault("a bad header", number, &frame, HELLO));
+        let joined = match number {
+            DONE => HEADERS_DIFFER,
+            _ => number,
+        };
+        faults.push(Fault {
+            joined,
+            ..fault("an odd header", number, &frame, HELLO)
+        });
     }
     let sixteen = pairs(16);
     faults.push(Fault {
         about: "17 pairs",
         number: BAD_HEADER,
+        joined: BAD_HEADER,
         frame: plain(&pairs(17), &[b"AA"]),
         neighbour: plain(&sixteen, &[b"AA"]),
         header: b"Z00,Z00,Z00,Z00,Z00,Z00,Z00,Z00,Z00,Z00,Z00,Z00,Z00,Z00,Z00,Z00",

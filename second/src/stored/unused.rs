@@ -128,16 +128,20 @@ fn handed_in(list: &mut List) {
 /// buffer. The right amount in 32,768 bytes stands among the full boards.
 fn handed_in_large(list: &mut List) {
     let frame = plain(b"Z00", &[POOL]);
-    let mut boards = full_boards();
+    let boards = full_boards();
     for (about, kit) in &boards {
         list.run(about, DONE, kit, &frame);
     }
-    boards.push(("no files in 32,768 bytes", Kit::fresh(b'C', MOST_MEMORY)));
     for (about, kit) in boards {
         for amount in wrong_amounts(&kit) {
             let kit = kit.clone().with_amount(amount);
             list.run_with(about, (NOT_SOUND, 0), &kit, &frame, 0);
         }
+    }
+    for amount in [32_769, 32_767, 0] {
+        let kit = Kit::fresh(b'C', MOST_MEMORY).with_amount(amount);
+        let about = "no files in 32,768 bytes";
+        list.run_with(about, (NOT_SOUND, 0), &kit, &frame, 0);
     }
 }
 

@@ -2,8 +2,8 @@
 //! ends of what document 01 allows, every command on a crowded board, the end
 //! of every month as a command and on a board, right and wrong unused amounts,
 //! true and wrong indices, files found and not found, good and wrong temperature
-//! offsets, right and wrong registers and what sets, tells and clears them, what
-//! requests 6 and 9 reckon, and the port driver's call.
+//! offsets, right and wrong registers and what sets, tells and clears them, small
+//! letters, what requests 6 and 9 reckon, and the port driver's call.
 
 use std::collections::{BTreeMap, BTreeSet};
 
@@ -12,6 +12,7 @@ use crate::dates::{sorts_of, sorts_of_text, wanted_sorts, Sort};
 use crate::indices::{
     kind_of_twins, kinds_of, laid, true_entries, twins, wanted_kinds, Entries, Kind, Laid,
 };
+use crate::letters::{self, Small};
 use crate::lookups::{content_at, meant, sought, walked_to, wanted_lookups, Sought};
 use crate::offsets::{self, field_of, number_on_board, told, wanted_fields, wanted_offsets, Field};
 use crate::reckoned::{shown_by, wanted as wanted_of_reckoning, Shown};
@@ -141,6 +142,8 @@ pub enum Fact {
     Register(Told),
     /// Bits that the port driver brought.
     Port(Noted),
+    /// Small letters, taken or not.
+    Letters(Small),
 }
 
 /// All that is looked for.
@@ -183,7 +186,13 @@ pub fn wanted() -> Vec<Fact> {
     wanted.extend(wanted_of_offsets());
     wanted.extend(offsets::wanted().into_iter().map(Fact::Added));
     wanted.extend(wanted_of_registers());
+    wanted.extend(wanted_of_letters());
     wanted
+}
+
+/// Small letters in every place where they are taken and where they are not.
+pub fn wanted_of_letters() -> Vec<Fact> {
+    letters::wanted().into_iter().map(Fact::Letters).collect()
 }
 
 /// Registers on boards, what sets, tells and clears them, and the port driver's
@@ -293,6 +302,9 @@ impl Seen {
         }
         for shown in shown_by_port(&case, &answer) {
             self.add(Fact::Port(shown));
+        }
+        for shown in letters::shown_by(&case, &answer) {
+            self.add(Fact::Letters(shown));
         }
         match (case, answer) {
             (Case::Fresh { memory, .. }, Answer::Fresh { made, .. }) => {
@@ -516,6 +528,10 @@ impl Seen {
         for shown in shown_by_blocks(&steps) {
             self.add(Fact::Register(shown));
         }
+        let steps: Vec<letters::Step<'_>> = blocks.iter().map(Met::lettered).collect();
+        for shown in letters::shown_by_blocks(&translated.bytes, &steps) {
+            self.add(Fact::Letters(shown));
+        }
         assert!(blocks.iter().all(|met| met.after.register >> 6 == 0b01));
         assert_eq!(blocks.last().map(|last| last.after), Some(ran.settings));
         for met in &blocks {
@@ -636,6 +652,8 @@ struct InFiles {
     sought: Vec<Sought>,
     /// The content of the file, where there is one.
     content: Option<Vec<u8>>,
+    /// Whether there is one of the type and of the label in the other case.
+    has_other_case: bool,
 }
 
 /// What a full walk says to a block, on a board that began its frame with those
@@ -643,9 +661,12 @@ struct InFiles {
 fn in_files(board: &Board<'_>, block: &Block<'_>, before: &[Laid]) -> Option<InFiles> {
     let meant = meant(block)?;
     let now = laid(board.memory, board.settings.files).expect("a sound board");
+    let (label, type_byte) = meant;
+    let other_case = (label ^ 0x20, type_byte);
     Some(InFiles {
         sought: sought(meant, &now, before),
         content: walked_to(&now, meant).map(|file| content_at(board.memory, file)),
+        has_other_case: label.is_ascii_alphabetic() && walked_to(&now, other_case).is_some(),
     })
 }
 
@@ -657,6 +678,15 @@ impl Met<'_> {
             before: self.before,
             after: self.after,
             outcome: &self.outcome,
+        }
+    }
+
+    /// What is looked at for small letters.
+    fn lettered(&self) -> letters::Step<'_> {
+        letters::Step {
+            block: self.block,
+            outcome: &self.outcome,
+            has_other_case: self.seen.as_ref().is_some_and(|seen| seen.has_other_case),
         }
     }
 

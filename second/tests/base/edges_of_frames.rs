@@ -126,8 +126,7 @@ fn number_5() {
         assert_eq!(number(&frame), if good { 0 } else { 5 }, "{byte:02X}");
     }
     for byte in 0..=255u8 {
-        let digit = byte.is_ascii_digit() || (b'A'..=b'F').contains(&byte);
-        let expected = if digit { 0 } else { 5 };
+        let expected = if byte.is_ascii_hexdigit() { 0 } else { 5 };
         let low = [b"_01Z00_02AA_1".as_slice(), &[byte], b"_04"].concat();
         assert_eq!(number(&low), expected, "{byte:02X}");
         let high = [b"_01Z00_02AA_".as_slice(), &[byte], b"A_04"].concat();
@@ -165,7 +164,8 @@ fn number_6() {
         (b"Z00Z00", 6),
         (b"Z00,Z0", 6),
         (b"Z00,Z00", 0),
-        (b"Z0a", 6),
+        (b"Z0a", 9),
+        (b"Z0g", 6),
         (b"000", 9),
     ] {
         assert_eq!(number(&plain(header, &[b"AA"])), expected, "{header:?}");
@@ -211,7 +211,8 @@ fn number_7() {
         (b"\x02AA\x030087\x03\x04", 7),
         (b"\x02AA\x030087\x02AA\x04", 0),
         (b"\x02AA\x030087AA\x04", 7),
-        (b"\x02AA\x03008a\x04", 7),
+        (b"\x02AA\x03008a\x04", 0),
+        (b"\x02AA\x03008g\x04", 7),
         (b"\x02AA\x03008G\x04", 7),
         (b"\x02AA\x03 087\x04", 7),
         (b"\x02AA\x03008\x04\x04", 7),
@@ -227,7 +228,7 @@ fn number_7() {
         let data = [b"\0\0\0\0\0\x01Z00\x02A".as_slice(), &[byte], b"\x04"].concat();
         let good = byte >= 5 || byte == 3;
         assert_eq!(number(&data), if good { 0 } else { 7 }, "{byte:02X}");
-        let digit = byte.is_ascii_digit() || (b'A'..=b'F').contains(&byte);
+        let digit = byte.is_ascii_hexdigit();
         for place in 0..4 {
             let mut sum = *b"0000";
             sum[place] = byte;
@@ -313,8 +314,10 @@ fn a_digit_as_an_escape() {
     }
     let after = run_on(&kit, b"_01Z00_02AAHELLO_03_311FB_04");
     assert_eq!((after.ran.number, after.ran.first_number), (0, 20));
-    let lower = b"_01Z00_02AAHELLO_03_301_66B_04";
-    assert_eq!(number_of(&kit, lower), 7);
+    let small = b"_01Z00_02AAHELLO_03_301_66B_04";
+    assert_eq!(run_on(&kit, small).ran.done, 1);
+    let no_digit = b"_01Z00_02AAHELLO_03_301_67B_04";
+    assert_eq!(number_of(&kit, no_digit), 7);
 }
 
 /// "the last opens the header": the two ways of leading give the same run.

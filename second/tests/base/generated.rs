@@ -2,16 +2,17 @@
 //! on sound, addressed boards, both ends of every bound are reached, and so are
 //! the end of every month, every kind of wrong unused amount, every kind of wrong
 //! index, every sort of label that is looked for, every temperature offset, every
-//! sort of register and what sets, tells and clears it, and every end of what
-//! requests 6 and 9 reckon and of the port driver's call.
+//! sort of register and what sets, tells and clears it, small letters wherever they
+//! are taken or not, and every end of what requests 6 and 9 reckon and of the port
+//! driver's call.
 
 use std::collections::BTreeMap;
 use std::sync::OnceLock;
 
 use crate::common::assert_every_number;
 use crate::coverage::{
-    wanted_board_amounts, wanted_board_indices, wanted_file_lookups, wanted_of_offsets,
-    wanted_of_registers, Fact, Seen,
+    wanted_board_amounts, wanted_board_indices, wanted_file_lookups, wanted_of_letters,
+    wanted_of_offsets, wanted_of_registers, Fact, Seen,
 };
 use crate::offsets::{wanted as wanted_of_degrees, Shown as Degrees};
 use crate::reckoned::{wanted as wanted_of_reckoning, Shown};
@@ -21,6 +22,7 @@ use second::cases::boards::{small, small_crowd, small_or_empty, sound};
 use second::cases::dates::wrong;
 use second::cases::dice::Dice;
 use second::cases::indices;
+use second::cases::letter_runs::{lettered, store_small};
 use second::cases::registers;
 use second::cases::temperatures::wrong_offset;
 use second::cases::write_cases;
@@ -52,8 +54,8 @@ const GATE_LEAST: [(u8, usize); 10] = [
 /// Seeds that the gate does not have.
 const OTHER_SEEDS: [u64; 6] = [1, 2, 3, 4, 5, 20_261_116];
 /// How often at least these cases show what is looked for in unused amounts, in
-/// indices, in lookups, in temperature offsets, in registers and in the calls that
-/// reckon.
+/// indices, in lookups, in temperature offsets, in registers, in small letters and in
+/// the calls that reckon.
 const GATE_SEVERAL: usize = 3;
 /// The same for their numbers, for going back over a year's beginning, for every
 /// weekday and for days of either sign.
@@ -97,7 +99,7 @@ fn every_number_occurs() {
 
 /// Boards that are meant to be sound are, and are not with a date that is
 /// meant not to exist, with an unused amount, with an index, with a temperature
-/// offset or with a register that is meant to be wrong.
+/// offset or with a register that is meant to be wrong, or with a small digit stored.
 #[test]
 fn boards_are_as_meant() {
     let mut dice = Dice::new(4);
@@ -123,6 +125,10 @@ fn boards_are_as_meant() {
             wrong.register = registers::wrong(&mut dice);
             assert!(!is_sound(wrong, &board.memory), "{wrong:?}");
         }
+        let mut board = lettered(&mut dice);
+        assert!(is_sound(board.settings, &board.memory));
+        store_small(&mut dice, &mut board);
+        assert!(!is_sound(board.settings, &board.memory), "{board:?}");
     }
 }
 
@@ -301,6 +307,13 @@ fn the_gate_tells_of_faults() {
     Stream::of_the_gate().assert_several(&wanted_of_registers());
 }
 
+/// The cases of the gate hold small letters in every place where they are taken, the
+/// bytes beside them there, and small letters in every place where they are others.
+#[test]
+fn the_gate_sends_small_letters() {
+    Stream::of_the_gate().assert_several(&wanted_of_letters());
+}
+
 /// The cases of the gate reach both ends of what document 01 allows, every
 /// command on a crowded board and the end of every month.
 #[test]
@@ -323,6 +336,7 @@ fn other_seeds_do_as_well() {
         stream.assert_several(&wanted_file_lookups());
         stream.assert_several(&wanted_of_offsets());
         stream.assert_several(&wanted_of_registers());
+        stream.assert_several(&wanted_of_letters());
         stream.assert_ends();
     }
 }

@@ -70,7 +70,7 @@ fn types_beside_the_gaps() {
 #[test]
 fn every_address_character() {
     for byte in 0..=255u8 {
-        let good = byte.is_ascii_digit() || (b'A'..=b'F').contains(&byte) || byte == b'?';
+        let good = byte.is_ascii_hexdigit() || byte == b'?';
         let high = write_out(1, &[b'Z', byte, b'0'], b'A', b"");
         let low = write_out(1, &[b'Z', b'0', byte], b'A', b"");
         assert_eq!(high.is_ok(), good, "{byte:02X}");

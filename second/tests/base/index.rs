@@ -365,7 +365,7 @@ fn it_stays_true() {
 /// of them with no room, and lookups of every label between them.
 #[test]
 fn it_stays_true_from_frame_to_frame() {
-    let (done, refused) = random_lists(74, (20, 10), |_, after| {
+    let (done, refused) = random_lists(76, (20, 10), |_, after| {
         let kit = after.kit;
         assert_true(&kit);
         let files = laid(&kit.memory, kit.settings.files).expect("a sound board");

@@ -1,4 +1,4 @@
-//! The tests of the base of document 01 and of requests 1, 3, 6, 7, 9
+//! The tests of the base of document 01 and of requests 1, 3, 4, 6, 7, 9
 //! and 10 of document 02, one idea to a file.
 #![forbid(unsafe_code)]
 
@@ -16,6 +16,7 @@ mod generated;
 mod headers;
 mod index;
 mod indices;
+mod letters;
 mod lookups;
 mod offset;
 mod offsets;
@@ -26,6 +27,7 @@ mod register;
 mod registers;
 mod renewal;
 mod sheet;
+mod small_letters;
 mod soundness;
 mod source_frames;
 mod stored;

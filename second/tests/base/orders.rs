@@ -13,7 +13,7 @@ fn a_run_board_and_buffer_first() {
     let faults: [&[u8]; 8] = [
         b"",
         b"Z",
-        b"_0a",
+        b"_0g",
         b"\0",
         b"\0\0\0\0\0\x01z00\x02A\x04",
         b"\0\0\0\0\0\x01Z00\x02A",
@@ -69,7 +69,7 @@ fn raw_length_before_lead_header_body() {
 fn number_5_before_translated_length() {
     let long = [b"_01Z00_02AA".as_slice(), &[b'x'; 9_000]].concat();
     reads_as(&long, 3);
-    reads_as(&[long.as_slice(), b"_0a"].concat(), 5);
+    reads_as(&[long.as_slice(), b"_0g"].concat(), 5);
     reads_as(&[long.as_slice(), b"_"].concat(), 5);
     reads_as(&[long.as_slice(), b"\x7F"].concat(), 5);
 }
@@ -227,7 +227,7 @@ fn reading_faults() -> [(u8, Vec<u8>); 10] {
         (3, Vec::new()),
         (4, sent(b"Z", b"")),
         (3, sent(&[0; 8_193], b"")),
-        (5, b"_01Z00_02AA_030000_04_0a".to_vec()),
+        (5, b"_01Z00_02AA_030000_04_0g".to_vec()),
         (3, escaped(&sent(&[0; 8_184], b""))),
         (4, sent(b"\0\0\0\0\x01Z00", b"")),
         (6, sent(b"\0\0\0\0\0\x01z00", b"")),

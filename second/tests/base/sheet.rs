@@ -118,14 +118,19 @@ fn printable_hello() {
     assert_eq!(reform_out(1, printable), Ok(source::TABLE_34.to_vec()));
 }
 
-/// "`_0a` is 5."
+/// "The base example `_0a` becomes a good escape": that frame is refused by its
+/// lead.
 #[test]
-fn lower_case_escape() {
+fn small_escape() {
     let kit = two_files();
-    assert_eq!(number_of(&kit, b"_0a"), 5);
-    assert_eq!(number_of(&kit, b"_01Z00_02AA_0a_04"), 5);
+    assert_eq!(number_of(&kit, b"_0a"), 4);
+    assert_eq!(number_of(&kit, b"_0A"), 4);
+    assert_eq!(number_of(&kit, b"_0g"), 5);
+    assert_eq!(reform_out(1, b"_0a"), Err(4));
+    assert_eq!(number_of(&kit, b"_01Z00_02AA_0a_04"), 0);
     assert_eq!(number_of(&kit, b"_01Z00_02AA_0A_04"), 0);
-    assert_eq!(reform_out(1, b"_01Z00_02AA_0a_04"), Err(5));
+    let plain = plain(b"Z00", &[b"AA\n"]);
+    assert_eq!(reform_out(1, b"_01Z00_02AA_0a_04"), Ok(plain));
 }
 
 /// "Table 38 is the summed joining of its two blocks."

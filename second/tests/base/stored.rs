@@ -44,8 +44,8 @@ fn every_refusal_is_there() {
 /// The fixed cases reach both ends of what document 01 allows, every command
 /// on a full board, the end of every month, every kind of wrong index, every sort
 /// of label that is looked for, every temperature offset, every sort of register
-/// and what sets, tells and clears it, and every end of what requests 6 and 9
-/// reckon and of the port driver's call.
+/// and what sets, tells and clears it, small letters wherever they are taken or not,
+/// and every end of what requests 6 and 9 reckon and of the port driver's call.
 #[test]
 fn every_end_is_there() {
     let cases = all().into_iter().map(|stored| stored.case);
@@ -65,7 +65,7 @@ fn writing_comes_first_and_the_whole_is_small() {
     let mut stream = Vec::new();
     write_stored(&mut stream, &CALLS).expect("memory takes it");
     println!("{} bytes", stream.len());
-    assert!(stream.len() < 3_800_000, "{}", stream.len());
+    assert!(stream.len() < 3_900_000, "{}", stream.len());
     let mut outputs = Vec::new();
     write_stored(&mut outputs, b"WFJ").expect("memory takes it");
     assert!(stream.starts_with(&outputs));
