@@ -86,22 +86,27 @@ static void put_sum(frame *f, size_t stx)
     f->length += 4;
 }
 
-/* A walk: sixteen bytes at a time up to those in which the data end, if the frame has sixteen there, and from these on byte by byte up to
- * the byte that ends the data. So it looks at 17 bytes more than there are data, or at one more. */
+/* How often a run of bytes, in so many bytes, is looked at when its end is searched: sixteen bytes at a time up to those in which it ends, if
+ * there are sixteen, and from these on byte by byte up to the byte that ends it. So these are 17 looks more than it has bytes, or one more. */
+static void count_run(size_t *counts, size_t length, size_t from, size_t to)
+{
+    size_t at = from;
+    while (length - at >= STRIDE) {
+        for (size_t k = 0; k < STRIDE; k++)
+            counts[at + k]++;
+        if (to - at < STRIDE)
+            break;
+        at += STRIDE;
+    }
+    for (; at <= to; at++)
+        counts[at]++;
+}
+
+/* A walk over all blocks. */
 static void count_walk(frame *f)
 {
-    for (size_t i = 0; i < BLOCKS; i++) {
-        size_t at = f->from[i];
-        while (f->length - at >= STRIDE) {
-            for (size_t k = 0; k < STRIDE; k++)
-                f->walk[at + k]++;
-            if (f->to[i] - at < STRIDE)
-                break;
-            at += STRIDE;
-        }
-        for (; at <= f->to[i]; at++)
-            f->walk[at]++;
-    }
+    for (size_t i = 0; i < BLOCKS; i++)
+        count_run(f->walk, f->length, f->from[i], f->to[i]);
 }
 
 /* In form 1, or in form 2, which has sums. The first message is empty, each other four bytes longer than the one before. */
@@ -151,19 +156,27 @@ static void read_and_step(const frame *f)
     each("the steps", f, 1, 0);
 }
 
-/* The summed frame in form 3: its characters are tested and counted, then translated, and what they stand for is walked in the room. */
+/* The summed frame in form 3. Each character is tested with the two behind it, so three times, and counted; then the next "_" is searched,
+ * and the characters up to it are copied. What they stand for is walked in the room. */
 static void read_printable(void)
 {
     size_t length = pagozkin_reform(3, summed.bytes, summed.length, out, sizeof out).length;
     size_t lead = summed.length - pagozkin_read(out, length, room).length;
-    static size_t places[PAGOZKIN_MOST_TRANSLATED];
+    static size_t places[PAGOZKIN_MOST_TRANSLATED], searched[PAGOZKIN_MOST_RESULT];
     for (size_t at = 0, byte = lead; at < length; at += out[at] == '_' ? 3 : 1)
         places[byte++] = at;
+    for (size_t at = 0; at < length; at += 3) {
+        size_t mark = at;
+        while (mark < length && out[mark] != '_')
+            mark++;
+        count_run(searched, length, at, mark);
+        at = mark;
+    }
     watch(out, 0);
     IS(pagozkin_read(out, length, room).printable, 1);
     for (size_t i = 0; i < BLOCKS; i++)
         for (size_t at = summed.from[i]; at < summed.to[i]; at++)
-            is("looks at a character", looks[places[at]], 2);
+            is("looks at a character", looks[places[at]], 5 + searched[places[at]]);
     watch(room, lead);
     IS(pagozkin_read(out, length, room).number, PAGOZKIN_DONE);
     each("read, printable", &summed, 1, 0);
@@ -179,7 +192,7 @@ static void run(const frame *f)
     each("run", f, 2, 1);
 }
 
-/* Tested, and put three times: two lengths and the result. */
+/* Tested and added up at one look, and put; in form 3 what needs an escape is counted before. */
 static void write(uint8_t form, size_t besides)
 {
     const uint8_t *text = plain.bytes + plain.from[BLOCKS - 1];
@@ -194,17 +207,17 @@ static void reform(const frame *f, uint8_t form, size_t besides)
 {
     watch(f->bytes, 0);
     IS(pagozkin_reform(form, f->bytes, f->length, out, sizeof out).number, PAGOZKIN_DONE);
-    each("reform", f, 6, besides);
+    each("reform", f, 2, besides);
 }
 
 static void join(const frame *one, const frame *other, uint8_t form, size_t besides)
 {
     watch(one->bytes, 0);
     IS(pagozkin_join(form, one->bytes, one->length, other->bytes, other->length, out, sizeof out).number, PAGOZKIN_DONE);
-    each("join, the first", one, 7, besides);
+    each("join, the first", one, 2, besides);
     watch(other->bytes, 0);
     IS(pagozkin_join(form, one->bytes, one->length, other->bytes, other->length, out, sizeof out).number, PAGOZKIN_DONE);
-    each("join, the second", other, 6, besides);
+    each("join, the second", other, 2, besides);
 }
 
 int main(void)
@@ -217,7 +230,7 @@ int main(void)
     run(&plain);
     run(&summed);
     for (uint8_t form = 1; form <= 3; form++) {
-        size_t besides = form == 1 ? 3 : 6; /* put three times, and as often summed in forms 2 and 3 */
+        size_t besides = form == 3 ? 2 : 1; /* put, and in form 3 counted */
         write(form, 1 + besides);
         reform(&plain, form, besides);
         reform(&summed, form, besides);

@@ -12,14 +12,13 @@ use crate::setting::in_range;
 use octets::bytes::ANY;
 use octets::bytes::FIRST_PRINTABLE;
 use octets::bytes::LAST_PRINTABLE;
-use octets::bytes::NUL;
 use octets::bytes::ZERO;
 use octets::hex::Four;
 use octets::hex::Two;
 use octets::hex::are_zeros;
 use octets::hex::four_at;
 use octets::hex::two_at;
-use octets::slices::equal_run;
+use octets::slices::all_nul;
 use octets::slices::plain_run;
 ghost use mathlib.Core.Path.{_≡_};
 ghost use mathlib.Core.Bool.{_&&_, _||_};
@@ -168,14 +167,6 @@ pub fn is_record(m: &[u8], at: usize, nought: bool) -> bool
         Four::Bad => false,
         Four::Value(_) => true,
     }
-}
-
-// Every byte is 00H: none is left behind those that are.
-fn all_nul(s: &[u8]) -> bool
-    ensures { λ r. ⌜ r ≡ all isNul (now (s .entry)) ⌝ }
-{
-    let end = equal_run(s, 0, NUL);
-    s.len() - end == 0
 }
 
 // "Content is zero or more bytes 05H to FFH, then 00H up to SIZE."

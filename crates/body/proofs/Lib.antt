@@ -6,4 +6,6 @@ pub mod Walks
 pub mod StepLaws
 pub mod BlockLoops
 pub mod Verdicts
+pub mod Surveys
+pub mod Takings
 pub mod Unique

@@ -9,33 +9,31 @@ use lib.ListN.{length, drop, drop-of-length-le}
 use Rattle.octets.specs.Choice.{all, _≤?_, _!_}
 use Rattle.octets.specs.Bytes.{STX, ETX, isPlain}
 use Rattle.octets.proofs.Spots.{drop-on}
-use Rattle.octets.proofs.Tests.{and-assoc, and-some}
+use Rattle.octets.proofs.Scans.{Testing, test-start, test-end, plain-next}
 use Rattle.body.specs.Sum.{sumFrom, summed, checksum}
 use Rattle.body.specs.Walking.{opening, stretched}
 use Rattle.body.specs.declared.sum.Stretch.{Stretch}
 
 -- the bytes up to place i are tested, and are in the sum
 pub record Stretching (s : List ℕ) (start : ℕ) (plain : Bool) (sum i : ℕ) : Type 0 where
-  pub inside : i ≤ length s
-  pub tested : (plain && all isPlain (drop i s)) ≡ all isPlain s
+  pub tests : Testing isPlain s plain i
   pub same : sumFrom sum (drop i s) ≡ sumFrom start s
 
 pub stretch-start : (s : List ℕ) (start : ℕ) → Stretching s start true start 0
-stretch-start s start = record { inside = omega arith; tested = refl; same = refl }
+stretch-start s start = record { tests = test-start isPlain s; same = refl }
 
 module _ {s : List ℕ} {start : ℕ} {plain : Bool} {sum i : ℕ} (g : Stretching s start plain sum i) where
   pub stretch-next : i < length s → (p : Bool) → p ≡ (plain && 5 ≤? s ! i) → (y : ℕ) → y ≡ (sum + s ! i) % 65536 → Stretching s start p y (i + 1)
-  unfolding sumFrom all isPlain
+  unfolding sumFrom
   stretch-next h p e y q = record {
-    inside = omega arith;
-    tested = rw e (and-assoc plain (5 ≤? s ! i) (all isPlain (drop (i + 1) s)) ∙ ap (λ l. plain && all isPlain l) (sym (drop-on s i h)) ∙ g .tested);
+    tests = plain-next (g .tests) h p e;
     same = rw q (ap (sumFrom sum) (sym (drop-on s i h)) ∙ g .same);
   }
 
   pub stretch-end : length s ≤ i → record { plain = plain; sum = sum } ≡ stretched start s
-  unfolding sumFrom all
+  unfolding sumFrom
   stretch-end h =
-      let p : plain ≡ all isPlain s = sym (and-some plain refl) ∙ rw (drop-of-length-le s h) at (g .tested) in
+      let p : plain ≡ all isPlain s = test-end (g .tests) h in
       let q : sum ≡ sumFrom start s = rw (drop-of-length-le s h) at (g .same) in
       λ k. record { plain = p k; sum = q k }
 

@@ -14,8 +14,7 @@ use Rattle.octets.specs.Choice.{front, all, _!_}
 use Rattle.octets.specs.Bytes.{isPlain}
 use Rattle.octets.proofs.Tests.{by-test, never}
 use Rattle.octets.proofs.Scans.{plain, not-plain}
-use Rattle.octets.proofs.Lists.{all-head, all-tail}
-use Rattle.octets.proofs.Places.{front-length, front-go, front-no, front-out}
+use Rattle.octets.proofs.Places.{front-length, front-split, front-go, front-no, front-out}
 use Rattle.body.specs.Sum.{sumFrom}
 use Rattle.body.specs.Walking.{part, STRIDE, stretched, walked, left, Walks, Near}
 use Rattle.body.specs.declared.sum.Stretch.{Stretch}
@@ -68,13 +67,6 @@ walk-less s to h k = omega (arith, ap length (left-on s to h k))
 -- ---- sixteen bytes at a time
 
 module _ (p : ℕ → Bool) where
-  -- bytes that all pass are at the front
-  front-split : (n : ℕ) (l : List ℕ) → all p (take n l) ≡ true → front p l ≡ take n l ++ front p (drop n l)
-  unfolding front all
-  front-split zero l a = refl
-  front-split (suc n) [] a = refl
-  front-split (suc n) (x ∷ l) a = rw (all-head p x (take n l) a) (ap (λ r. x ∷ r) (front-split n l (all-tail p x (take n l) a)))
-
   -- where one does not, the front is shorter
   front-few : (n : ℕ) (l : List ℕ) → all p (take n l) ≡ false → length (front p l) < n
   unfolding front all

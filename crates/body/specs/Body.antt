@@ -86,3 +86,8 @@ readNotLast before (b ∷ bs) = before || readNotLast (isRead (b .command)) bs
 unfoldable pub hasRead : List Block → Bool
 hasRead [] = false
 hasRead (b ∷ bs) = isRead (b .command) || hasRead bs
+
+-- no block's sum is wrong
+unfoldable pub allRight : List Block → Bool
+allRight [] = true
+allRight (b ∷ bs) = b .right && allRight bs

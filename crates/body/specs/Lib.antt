@@ -4,3 +4,5 @@ pub mod Body
 pub mod Steps
 pub mod Readers
 pub mod Walking
+pub mod Surveying
+pub mod Taking

@@ -3,6 +3,7 @@ pub mod judging;
 pub mod reader;
 pub mod steps;
 pub mod sum;
+pub mod taking;
 pub mod walk;
 
 // What stands at a place of a frame: no block; a block with another one behind it; or the last block.

@@ -58,7 +58,7 @@ fn follow(s: &[u8], at: usize, to: usize, command: u8, right: bool, next: usize)
 }
 
 // "STX or EOT means no checksum"
-fn no_sum(b: u8) -> bool
+pub fn no_sum(b: u8) -> bool
     ensures { λ r. ⌜ r ≡ (b is STX || b is EOT) ⌝ }
 {
     match b {

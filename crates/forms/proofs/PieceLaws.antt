@@ -7,11 +7,10 @@ use native.Mathlib.Nat.{not-suc-le-zero}
 use native.Mathlib.Omega.{arith}
 use borrow.Author.Tests.{ne-eqb, le-leb, lt-ltb, le-ltb}
 use lib.Dec.{lit≤}
-use lib.ListN.{length, length-append}
+use lib.ListN.{length}
 use Rattle.octets.specs.Choice.{if_then_else_, _is_}
 use Rattle.octets.specs.Hex.{digit, inHex4}
 use Rattle.octets.specs.Bytes.{SOH, STX, ETX, EOT}
-use Rattle.octets.specs.Buffer.{zeros}
 use Rattle.octets.proofs.Tests.{choice, compare}
 use Rattle.body.specs.Sum.{checksum}
 use Rattle.body.specs.Body.{Block}
@@ -50,12 +49,6 @@ pub encode-none : (form : ℕ) → encode form [] ≡ []
 unfolding encode escape
 encode-none form = choice (λ l. l ≡ []) (form is 3) (λ e. refl) (λ e. refl)
 
--- at most three bytes for one
-pub encode-length : (form : ℕ) (l : List ℕ) → length (encode form l) ≤ 3 * length l
-unfolding encode
-encode-length form l =
-    choice (λ (r : List ℕ). length r ≤ 3 * length l) (form is 3) (λ e. escape-length l) (λ e. omega arith)
-
 -- a form that is not printable carries every byte as it is
 pub encode-other : (form : ℕ) (l : List ℕ) → (form ≡ 3 → ⊥) → encode form l ≡ l
 unfolding encode
@@ -73,7 +66,8 @@ encode-escaped form b t e = rw (t, e)
 
 -- ---- digits stand for themselves
 
-digit-itself : (n : ℕ) → n < 16 → isItself (digit n) ≡ true
+-- one digit
+pub digit-itself : (n : ℕ) → n < 16 → isItself (digit n) ≡ true
 unfolding isItself digit
 digit-itself n h =
     compare n 10
@@ -100,29 +94,6 @@ hex4-halves v =
     let b : v % 256 / 16 ≡ v / 16 % 16 = omega arith in
     let c : v % 256 % 16 ≡ v % 16 = omega arith in
     rw (a, b, c)
-
--- ---- lengths
-
-pub parting-length : (form : ℕ) (first : Bool) → length (parting form first) ≤ 1
-unfolding parting
-parting-length form true = choice (λ (l : List ℕ). length l ≤ 1) (form is 1) (λ t. lit≤ tt) (λ t. lit≤ tt)
-parting-length form false = choice (λ (l : List ℕ). length l ≤ 1) (form is 1) (λ t. lit≤ tt) (λ t. lit≤ tt)
-
-ending-length : (form c : ℕ) (d : List ℕ) → length (ending form c d) ≤ 5
-unfolding ending inHex4
-ending-length form c d = choice (λ (l : List ℕ). length l ≤ 5) (form is 1) (λ t. lit≤ tt) (λ t. lit≤ tt)
-
-pub piece-length : (form : ℕ) (first : Bool) (c : ℕ) (d : List ℕ) → length (piece form first c d) ≤ 8 + length d
-unfolding piece
-piece-length form first c d = simp length-append (omega (arith, parting-length form first, ending-length form c d))
-
-pub nuls-length : (form : ℕ) → length (nuls form) ≤ 5
-unfolding nuls zeros
-nuls-length form = choice (λ (l : List ℕ). length l ≤ 5) (form is 3) (λ t. lit≤ tt) (λ t. lit≤ tt)
-
-pub heading-length : (form : ℕ) (h : List ℕ) → length (heading form h) ≤ 6 + length h
-unfolding heading
-heading-length form h = simp length-append (omega (arith, nuls-length form))
 
 -- ---- the form, piece by piece
 

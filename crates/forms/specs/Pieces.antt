@@ -1,5 +1,5 @@
 -- For contracts of inner functions only: a form as it is put together piece by piece.
-use Prim.Native.Nat.{ℕ, _+_, _/_, _%_}
+use Prim.Native.Nat.{ℕ, _+_, _/_, _%_, _≤_}
 use mathlib.Core.Path.{_≡_}
 use mathlib.Core.Bool.{Bool, true, false}
 use mathlib.Core.List.{List, [], _∷_, _++_}
@@ -12,9 +12,9 @@ use Rattle.body.specs.Sum.{checksum}
 use Rattle.body.specs.Body.{Block}
 use Rattle.forms.specs.Forms.{nuls, escape}
 
--- no place is further on: what the calls ask of a place guards only against a sum that wraps
-abbrev pub FAR : ℕ
-FAR = 1000000000
+-- a buffer has places for these bytes from a place on
+pub record Takes (out : List ℕ) (at : ℕ) (bytes : List ℕ) : Type 0 where
+  pub room : at + length bytes ≤ length out
 
 -- bytes were put into a buffer from a place on, and the next place is answered
 pub record Puts (out : List ℕ) (at : ℕ) (bytes after : List ℕ) (next : ℕ) : Type 0 where
@@ -34,12 +34,12 @@ unfoldable pub parting : ℕ → Bool → List ℕ
 parting form first = if form is 1 then (if first then [] else ETX ∷ []) else []
 
 -- in the others ETX and the checksum end it
-unfoldable pub ending : ℕ → ℕ → List ℕ → List ℕ
-ending form c d = if form is 1 then [] else ETX ∷ inHex4 (checksum c d)
+unfoldable pub ending : ℕ → ℕ → List ℕ
+ending form v = if form is 1 then [] else ETX ∷ inHex4 v
 
 -- a block in a form
 unfoldable pub piece : ℕ → Bool → ℕ → List ℕ → List ℕ
-piece form first c d = parting form first ++ (STX ∷ c ∷ d ++ ending form c d)
+piece form first c d = parting form first ++ (STX ∷ c ∷ d ++ ending form (checksum c d))
 
 -- blocks in a form
 unfoldable pub pieces : ℕ → Bool → List Block → List ℕ

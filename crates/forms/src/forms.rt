@@ -1,6 +1,5 @@
-// "Three forms we write": each call puts bytes into a buffer from a place on and answers the next place.
-// A byte that finds no place in the buffer is left out, so that a run over a buffer of no use counts what a result will take.
-use body::sum::checksum;
+// "Three forms we write": each call puts bytes into a buffer from a place on, where it has places for them, and answers the next place.
+use buffers::copying::copy_at;
 use header::capitals::capital_at;
 use octets::bytes::EOT;
 use octets::bytes::ESCAPE;
@@ -11,16 +10,16 @@ use octets::bytes::NUL;
 use octets::bytes::SOH;
 use octets::bytes::STX;
 use octets::hex::hex_digit;
-use octets::slices::put_at;
 ghost use mathlib.Core.Path.{_≡_};
 ghost use mathlib.Core.List.{[], _∷_};
-ghost use Prim.Native.Nat.{_+_, _*_, _≤_};
+ghost use Prim.Native.Nat.{_+_, _<_, _≤_};
 ghost use lib.ListN.{length};
 ghost use Rattle.octets.specs.Bytes.{STX, EOT};
 ghost use Rattle.octets.specs.Hex.{inHex4};
 ghost use Rattle.header.specs.Capitals.{headerCapitals};
+ghost use Rattle.body.specs.Sum.{checksum};
 ghost use Rattle.forms.specs.Forms.{isItself, escapeOf, nuls};
-ghost use Rattle.forms.specs.Pieces.{FAR, Puts, inHex2, encode, parting, ending, piece, heading};
+ghost use Rattle.forms.specs.Pieces.{Takes, Puts, inHex2, encode, parting, ending, piece, heading};
 
 // form 1 is plain, form 3 printable
 pub const PLAIN_FORM: u8 = 1;
@@ -28,7 +27,7 @@ pub const PLAIN_FORM: u8 = 1;
 pub const PRINTABLE_FORM: u8 = 3;
 
 // Every byte but those "below 20H, above 7EH and 5FH" stands for itself in a printable form.
-fn is_itself(b: u8) -> bool
+pub fn is_itself(b: u8) -> bool
     ensures { λ r. ⌜ r ≡ isItself b ⌝ }
 {
     if b < FIRST_PRINTABLE {
@@ -42,16 +41,16 @@ fn is_itself(b: u8) -> bool
 
 // A byte as it is.
 fn put_byte(out: &mut [u8], at: usize, b: u8) -> usize
-    requires { ⌜ at + 1 ≤ FAR ⌝ }
+    requires { ⌜ at < length (now out) ⌝ }
     ensures { λ r. ⌜ Puts (now (out .entry)) at (b ∷ []) (now (out .exit)) r ⌝ }
 {
-    put_at(out, at, b);
+    out[at] = b;
     at + 1
 }
 
 // The two digits of a byte.
 fn put_two(out: &mut [u8], at: usize, b: u8) -> usize
-    requires { ⌜ at + 2 ≤ FAR ⌝ }
+    requires { ⌜ at + 2 ≤ length (now out) ⌝ }
     ensures { λ r. ⌜ Puts (now (out .entry)) at (inHex2 b) (now (out .exit)) r ⌝ }
 {
     let next = put_byte(out, at, hex_digit(b / 16));
@@ -60,7 +59,7 @@ fn put_two(out: &mut [u8], at: usize, b: u8) -> usize
 
 // An escape: "_" and two digits.
 fn put_escape(out: &mut [u8], at: usize, b: u8) -> usize
-    requires { ⌜ at + 3 ≤ FAR ⌝ }
+    requires { ⌜ at + 3 ≤ length (now out) ⌝ }
     ensures { λ r. ⌜ Puts (now (out .entry)) at (escapeOf b) (now (out .exit)) r ⌝ }
 {
     let next = put_byte(out, at, ESCAPE);
@@ -69,7 +68,7 @@ fn put_escape(out: &mut [u8], at: usize, b: u8) -> usize
 
 // One byte, as a form carries it.
 fn put_one(out: &mut [u8], at: usize, form: u8, b: u8) -> usize
-    requires { ⌜ at + 3 ≤ FAR ⌝ }
+    requires { ⌜ Takes (now out) at (encode form (b ∷ [])) ⌝ }
     ensures { λ r. ⌜ Puts (now (out .entry)) at (encode form (b ∷ [])) (now (out .exit)) r ⌝ }
 {
     if form != PRINTABLE_FORM {
@@ -81,9 +80,9 @@ fn put_one(out: &mut [u8], at: usize, form: u8, b: u8) -> usize
     put_escape(out, at, b)
 }
 
-// Every byte of a slice.
-fn put_all(out: &mut [u8], at: usize, form: u8, s: &[u8]) -> usize
-    requires { ⌜ at + 3 * length (now s) ≤ FAR ⌝ }
+// Every byte of a slice, one by one.
+fn put_each(out: &mut [u8], at: usize, form: u8, s: &[u8]) -> usize
+    requires { ⌜ Takes (now out) at (encode form (now s)) ⌝ }
     ensures { λ r. ⌜ Puts (now (out .entry)) at (encode form (now (s .entry))) (now (out .exit)) r ⌝ }
 {
     let mut next = at;
@@ -95,9 +94,29 @@ fn put_all(out: &mut [u8], at: usize, form: u8, s: &[u8]) -> usize
     next
 }
 
+// A slice as it is, copied as a whole.
+fn put_run(out: &mut [u8], at: usize, s: &[u8]) -> usize
+    requires { ⌜ Takes (now out) at (now s) ⌝ }
+    ensures { λ r. ⌜ Puts (now (out .entry)) at (now (s .entry)) (now (out .exit)) r ⌝ }
+{
+    copy_at(out, at, s);
+    at + s.len()
+}
+
+// Every byte of a slice: forms 1 and 2 carry it as it is.
+fn put_all(out: &mut [u8], at: usize, form: u8, s: &[u8]) -> usize
+    requires { ⌜ Takes (now out) at (encode form (now s)) ⌝ }
+    ensures { λ r. ⌜ Puts (now (out .entry)) at (encode form (now (s .entry))) (now (out .exit)) r ⌝ }
+{
+    if form != PRINTABLE_FORM {
+        return put_run(out, at, s);
+    }
+    put_each(out, at, form, s)
+}
+
 // A header text, in capitals: "header addresses we write".
 fn put_header(out: &mut [u8], at: usize, form: u8, h: &[u8]) -> usize
-    requires { ⌜ at + 3 * length (now h) ≤ FAR ⌝ }
+    requires { ⌜ Takes (now out) at (encode form (headerCapitals (now h))) ⌝ }
     ensures { λ r. ⌜ Puts (now (out .entry)) at (encode form (headerCapitals (now (h .entry)))) (now (out .exit)) r ⌝ }
 {
     let mut next = at;
@@ -111,7 +130,7 @@ fn put_header(out: &mut [u8], at: usize, form: u8, h: &[u8]) -> usize
 
 // The four digits of a sum. A digit is carried as it is in every form.
 fn put_sum(out: &mut [u8], at: usize, v: u16) -> usize
-    requires { ⌜ at + 4 ≤ FAR ⌝ }
+    requires { ⌜ at + 4 ≤ length (now out) ⌝ }
     ensures { λ r. ⌜ Puts (now (out .entry)) at (inHex4 v) (now (out .exit)) r ⌝ }
 {
     let next = put_two(out, at, (v / 256) as u8);
@@ -120,7 +139,7 @@ fn put_sum(out: &mut [u8], at: usize, v: u16) -> usize
 
 // In the plain form ETX parts a block from the one before it.
 fn put_parting(out: &mut [u8], at: usize, form: u8, first: bool) -> usize
-    requires { ⌜ at + 3 ≤ FAR ⌝ }
+    requires { ⌜ Takes (now out) at (encode form (parting form first)) ⌝ }
     ensures { λ r. ⌜ Puts (now (out .entry)) at (encode form (parting form first)) (now (out .exit)) r ⌝ }
 {
     if form != PLAIN_FORM {
@@ -133,20 +152,20 @@ fn put_parting(out: &mut [u8], at: usize, form: u8, first: bool) -> usize
 }
 
 // In the others ETX and the checksum end it.
-fn put_ending(out: &mut [u8], at: usize, form: u8, command: u8, text: &[u8]) -> usize
-    requires { ⌜ at + 15 ≤ FAR ⌝ }
-    ensures { λ r. ⌜ Puts (now (out .entry)) at (encode form (ending form command (now (text .entry)))) (now (out .exit)) r ⌝ }
+fn put_ending(out: &mut [u8], at: usize, form: u8, sum: u16) -> usize
+    requires { ⌜ Takes (now out) at (encode form (ending form sum)) ⌝ }
+    ensures { λ r. ⌜ Puts (now (out .entry)) at (encode form (ending form sum)) (now (out .exit)) r ⌝ }
 {
     if form == PLAIN_FORM {
         return at;
     }
     let next = put_one(out, at, form, ETX);
-    put_sum(out, next, checksum(command, text))
+    put_sum(out, next, sum)
 }
 
 // "STX, a command byte".
 fn put_command(out: &mut [u8], at: usize, form: u8, command: u8) -> usize
-    requires { ⌜ at + 6 ≤ FAR ⌝ }
+    requires { ⌜ Takes (now out) at (encode form (STX ∷ command ∷ [])) ⌝ }
     ensures { λ r. ⌜ Puts (now (out .entry)) at (encode form (STX ∷ command ∷ [])) (now (out .exit)) r ⌝ }
 {
     let next = put_one(out, at, form, STX);
@@ -155,14 +174,14 @@ fn put_command(out: &mut [u8], at: usize, form: u8, command: u8) -> usize
 
 // "STX, a command byte, data".
 fn put_opened(out: &mut [u8], at: usize, form: u8, command: u8, text: &[u8]) -> usize
-    requires { ⌜ at + 6 + 3 * length (now text) ≤ FAR ⌝ }
+    requires { ⌜ Takes (now out) at (encode form (STX ∷ command ∷ now text)) ⌝ }
     ensures { λ r. ⌜ Puts (now (out .entry)) at (encode form (STX ∷ command ∷ now (text .entry))) (now (out .exit)) r ⌝ }
 {
     let next = put_command(out, at, form, command);
     put_all(out, next, form, text)
 }
 
-// A block.
+// A block, with the sum that is known of it.
 pub fn put_piece(
     out: &mut [u8],
     at: usize,
@@ -170,28 +189,31 @@ pub fn put_piece(
     first: bool,
     command: u8,
     text: &[u8],
+    sum: u16,
 ) -> usize
-    requires { ⌜ at + 24 + 3 * length (now text) ≤ FAR ⌝ }
+    requires { ⌜ Takes (now out) at (encode form (piece form first command (now text))) ⌝ }
+    requires { ⌜ sum ≡ checksum command (now text) ⌝ }
     ensures { λ r. ⌜ Puts (now (out .entry)) at (encode form (piece form first command (now (text .entry)))) (now (out .exit)) r ⌝ }
 {
     let a = put_parting(out, at, form, first);
     let b = put_opened(out, a, form, command, text);
-    put_ending(out, b, form, command, text)
+    put_ending(out, b, form, sum)
 }
 
 // "five NUL", and in form 3 "without the NULs".
 fn put_nuls(out: &mut [u8], form: u8) -> usize
+    requires { ⌜ Takes (now out) 0 (encode form (nuls form)) ⌝ }
     ensures { λ r. ⌜ Puts (now (out .entry)) 0 (encode form (nuls form)) (now (out .exit)) r ⌝ }
 {
     if form == PRINTABLE_FORM {
         return 0;
     }
-    put_all(out, 0, form, &[NUL; 5])
+    put_run(out, 0, &[NUL; 5])
 }
 
 // What stands before the blocks: "five NUL, SOH, header", this in capitals.
 pub fn put_heading(out: &mut [u8], form: u8, h: &[u8]) -> usize
-    requires { ⌜ 18 + 3 * length (now h) ≤ FAR ⌝ }
+    requires { ⌜ Takes (now out) 0 (encode form (heading form (headerCapitals (now h)))) ⌝ }
     ensures { λ r. ⌜ Puts (now (out .entry)) 0 (encode form (heading form (headerCapitals (now (h .entry))))) (now (out .exit)) r ⌝ }
 {
     let a = put_nuls(out, form);
@@ -201,7 +223,7 @@ pub fn put_heading(out: &mut [u8], form: u8, h: &[u8]) -> usize
 
 // "EOT".
 pub fn put_eot(out: &mut [u8], at: usize, form: u8) -> usize
-    requires { ⌜ at + 3 ≤ FAR ⌝ }
+    requires { ⌜ Takes (now out) at (encode form (EOT ∷ [])) ⌝ }
     ensures { λ r. ⌜ Puts (now (out .entry)) at (encode form (EOT ∷ [])) (now (out .exit)) r ⌝ }
 {
     put_one(out, at, form, EOT)

@@ -13,7 +13,7 @@ use Rattle.octets.proofs.Tests.{split}
 use Rattle.header.specs.Header.{isHeader}
 use Rattle.header.specs.Capitals.{headerCapitals, noSmall}
 use Rattle.header.proofs.InCapitals.{header-same, header-none, header-own}
-use Rattle.body.specs.Body.{Block, block, readNotLast}
+use Rattle.body.specs.Body.{Block, block, readNotLast, allRight}
 use Rattle.body.proofs.Taken.{Blocks}
 use Rattle.reading.specs.Reading.{frame, read}
 use Rattle.reading.specs.Capitals.{inCapitals}
@@ -22,7 +22,7 @@ use Rattle.reading.proofs.InCapitals.{capitals-bytes, capitals-none}
 use Rattle.forms.specs.Forms.{render}
 use Rattle.writing.specs.Output.{Output, isOver, delivered}
 use Rattle.writing.specs.Writing.{write}
-use Rattle.writing.specs.Reforming.{allRight, checked, reform}
+use Rattle.writing.specs.Reforming.{checked, reform}
 use Rattle.writing.specs.Joining.{join}
 use Rattle.frame.specs.Results.{resultOf, Carries, Sure, Joined}
 use Rattle.frame.proofs.FormBytes.{render-bytes}

@@ -14,13 +14,12 @@ use Rattle.octets.proofs.Tests.{choice, split}
 use Rattle.octets.proofs.Lists.{all-head, all-more, front-stop, behind-stop}
 use Rattle.header.specs.Header.{isHeader}
 use Rattle.header.proofs.Texts.{isText, text-low, header-text, header-some}
-use Rattle.body.specs.Body.{Block, block, body, blocks, readNotLast}
+use Rattle.body.specs.Body.{Block, block, body, blocks, readNotLast, allRight}
 use Rattle.body.proofs.Plain.{righted}
 use Rattle.reading.specs.Lead.{led, isSoh, nulLead, sohLead, leadOf}
 use Rattle.reading.specs.Reading.{frame, notStx, readBody, readHeader, readLed, readTranslated, readPrintable, readStandard, read}
 use Rattle.reading.proofs.FrameLaws.{FrameOf}
 use Rattle.forms.specs.Forms.{plainBody, summedBody, nuls, bodyIn, formOf, escape, render}
-use Rattle.writing.specs.Reforming.{allRight}
 use Rattle.forms.proofs.PieceLaws.{escape-length}
 use Rattle.frame.proofs.Printing.{back-printable, escape-lead}
 use Rattle.frame.proofs.BodyBack.{back-body}

@@ -13,14 +13,14 @@ use Rattle.octets.proofs.Tests.{choice}
 use Rattle.octets.proofs.Lists.{same-eq, same-self}
 use Rattle.header.specs.Header.{isHeader}
 use Rattle.header.specs.Capitals.{headerCapitals}
-use Rattle.body.specs.Body.{Block, block, hasRead}
+use Rattle.body.specs.Body.{Block, block, hasRead, allRight}
 use Rattle.reading.specs.Reading.{Reading, refused, frame, read}
 use Rattle.reading.specs.Capitals.{inCapitals}
 use Rattle.reading.proofs.InCapitals.{capitals-number}
 use Rattle.forms.specs.Forms.{render}
 use Rattle.writing.specs.Output.{Output, isForm, isOver, unwritten, delivered, putNumber, put}
 use Rattle.writing.specs.Writing.{write}
-use Rattle.writing.specs.Reforming.{allRight, checked, putRead, reform}
+use Rattle.writing.specs.Reforming.{checked, putRead, reform}
 use Rattle.writing.specs.Joining.{putJoined, join}
 use Rattle.writing.proofs.Results.{put-fits}
 use Rattle.frame.specs.Joinable.{Joinable}

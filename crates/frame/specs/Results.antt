@@ -6,12 +6,11 @@ use Prim.Native.Nat.{ℕ}
 use lib.ListN.{take}
 use Rattle.octets.specs.Choice.{isByte, all}
 use Rattle.header.specs.Capitals.{noSmall}
-use Rattle.body.specs.Body.{Block, hasRead}
+use Rattle.body.specs.Body.{Block, hasRead, allRight}
 use Rattle.reading.specs.Reading.{frame, read}
 use Rattle.reading.specs.Capitals.{inCapitals}
 use Rattle.forms.specs.Forms.{render}
 use Rattle.writing.specs.Output.{Output, isOver}
-use Rattle.writing.specs.Reforming.{allRight}
 
 -- "The result starts the output buffer; .. its length is returned."
 abbrev pub resultOf : Output → List ℕ

@@ -10,6 +10,10 @@ pub use body::reader::step_from;
 pub use reading::Read;
 pub use reading::reading::read;
 
+// The same without a room, of a frame that is not printable.
+pub use reading::reading::is_printable;
+pub use reading::reading::read_bare;
+
 // The sum of a block, the fit of a header to a board, and the types that a board may have.
 pub use body::sum::checksum;
 pub use header::addressing::addressed;

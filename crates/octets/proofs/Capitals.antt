@@ -1,21 +1,21 @@
 -- Laws of capitals: the bytes of a list as capitals, and the digits that a frame carries.
 use mathlib.Core.Path.{_≡_, refl, sym, ap, _∙_, subst}
-use mathlib.Core.Bool.{true, false}
+use mathlib.Core.Bool.{Bool, true, false, _||_}
 use mathlib.Core.List.{List, [], _∷_, _++_}
 use Prim.Native.Nat.{ℕ, zero, suc, _+_, _-_, _/_, _%_, _<_, _≤_}
 use native.Mathlib.Omega.{arith}
 use borrow.Author.Needs.{needs}
-use borrow.Author.Tests.{le-leb, lt-leb, ne-eqb}
+use borrow.Author.Tests.{le-leb, lt-leb, leb-true, lt-ltb, ne-eqb}
 use lib.ListN.{length, drop}
-use Rattle.octets.specs.Choice.{_is_, _!_}
-use Rattle.octets.specs.Hex.{digit, value, isHex4, hex4, inHex4}
-use Rattle.octets.specs.Carried.{isSmall, capital, capitals, isCarried4, carried4}
+use Rattle.octets.specs.Choice.{_is_, _≤?_, between, _!_}
+use Rattle.octets.specs.Hex.{digit, value, isHex, isHex4, hex4, inHex4}
+use Rattle.octets.specs.Carried.{isSmall, capital, capitals, isCarried, isCarried4, carried4}
 use Rattle.octets.specs.Digits.{two, twoOf, four, fourOf}
 use Rattle.octets.specs.declared.hex.Two.{Two}
 use Rattle.octets.specs.declared.hex.Two.the-variants.{Bad}
 use Rattle.octets.specs.declared.hex.Four.{Four}
 use Rattle.octets.specs.declared.hex.Four.the-variants.{Bad as Bad4}
-use Rattle.octets.proofs.Tests.{compare}
+use Rattle.octets.proofs.Tests.{compare, by-test, and-right, or-none}
 use Rattle.octets.proofs.Digits.{digit-most, two-short, two-told, four-short, four-told, isHex4-inHex4, hex4-inHex4}
 
 -- ---- a byte
@@ -60,6 +60,37 @@ module _ (x : ℕ) where
   capital-is k h =
       by-capital (λ y. (y is k) ≡ (x is k))
       (λ a b. ne-eqb (x - 32) k (λ e. omega arith) ∙ sym (ne-eqb x k (λ e. omega arith))) (λ a. refl) (λ a. refl)
+
+-- ---- the ranges of digits
+
+within : (lo hi x : ℕ) → between lo hi x ≡ true → x ≤ hi
+within lo hi x e = leb-true x hi (and-right (lo ≤? x) (x ≤? hi) e)
+
+hex-ranges : (x : ℕ) → isHex x ≡ (between 0x30 0x39 x || between 0x41 0x46 x)
+unfolding value
+hex-ranges x =
+    by-test (between 0x30 0x39 x) (λ e. rw (e, lt-ltb (x - 0x30) 16 (omega (arith, within 0x30 0x39 x e)))) (λ e.
+    by-test (between 0x41 0x46 x) (λ f. rw (e, f, lt-ltb (x - 0x37) 16 (omega (arith, within 0x41 0x46 x f)))) (λ f. rw (e, f)))
+
+-- figures, capitals, small letters
+carried-ranges : (x : ℕ) → ((between 0x30 0x39 x || between 0x41 0x46 x) || isSmall x) ≡ isCarried x
+carried-ranges x =
+    by-capital x (λ y. ((between 0x30 0x39 x || between 0x41 0x46 x) || isSmall x) ≡ isHex y)
+    (λ a b.
+    rw (hex-ranges (x - 32), le-leb 0x30 x (omega arith), lt-leb x 0x39 (omega arith), le-leb 0x41 x (omega arith), lt-leb x 0x46 (omega arith))
+    (rw (
+      le-leb 0x61 x a,
+      le-leb x 0x66 (omega arith),
+      le-leb 0x30 (x - 32) (omega arith),
+      lt-leb (x - 32) 0x39 (omega arith),
+      le-leb 0x41 (x - 32) (omega arith),
+      le-leb (x - 32) 0x46 (omega arith),
+    )))
+    (λ a. rw (hex-ranges x, lt-leb 0x61 x a) (or-none (between 0x30 0x39 x || between 0x41 0x46 x)))
+    (λ a. rw (hex-ranges x, le-leb 0x61 x (omega arith), lt-leb x 0x66 a) (or-none (between 0x30 0x39 x || between 0x41 0x46 x)))
+
+pub carried-told : (x : ℕ) (a b c : Bool) → a ≡ between 0x30 0x39 x → b ≡ between 0x41 0x46 x → c ≡ isSmall x → ((a || b) || c) ≡ isCarried x
+carried-told x a b c p q r = rw (p, q, r) (carried-ranges x)
 
 -- the digits that we write are capitals
 pub capital-digit : (n : ℕ) → n < 16 → capital (digit n) ≡ digit n
@@ -108,7 +139,7 @@ module _ (s : List ℕ) (i : ℕ) where
       (k ∙ ap value (sym (capitals-at s (i + 2)))) (t ∙ ap value (sym (capitals-at s (i + 3)))) r e)
 
 pub ruleset carried =
-    (capital-small, capital-below, capital-above, carried-two-short, carried-two-told, carried-four-short, carried-four-told, needs)
+    (capital-small, capital-below, capital-above, carried-told, carried-two-short, carried-two-told, carried-four-short, carried-four-told, needs)
 
 -- ---- four digits that we write, and then l, as a frame carries them
 

@@ -10,7 +10,7 @@ use Rattle.header.specs.Addressing.{isOwnType, fitOf, addressFits, pairFits, an
 use Rattle.header.specs.Header.{isPair, isPairs, isHeader}
 use Rattle.header.specs.Capitals.{capitalAt, capitalsFrom, headerCapitals, noSmallFrom, noSmall}
 use Rattle.body.specs.Sum.{sumFrom, summed, checksum}
-use Rattle.body.specs.Body.{follow, afterEtx, afterData, blockAt, prepend, onward, blocks, isRead, readNotLast, hasRead}
+use Rattle.body.specs.Body.{follow, afterEtx, afterData, blockAt, prepend, onward, blocks, isRead, readNotLast, hasRead, allRight}
 use Rattle.body.specs.Steps.{placed, foundAt}
 use Rattle.body.specs.Walking.{blocksIn, isBody, lastNumber, verdict}
 use Rattle.reading.specs.Translation.{push, translateFrom, translate}
@@ -32,7 +32,7 @@ unfolding
     isPair isPairs isHeader
     capitalAt capitalsFrom headerCapitals noSmallFrom noSmall
     sumFrom summed checksum
-    follow afterEtx afterData blockAt prepend onward blocks isRead readNotLast hasRead
+    follow afterEtx afterData blockAt prepend onward blocks isRead readNotLast hasRead allRight
     placed foundAt blocksIn isBody lastNumber verdict
     push translateFrom translate
     isSoh nulLead sohLead leadOf

@@ -3,6 +3,7 @@ pub mod FrameLaws
 pub mod InCapitals
 pub mod Translating
 pub mod Leads
+pub mod Marks
 pub mod Chars
 pub mod Parting
 pub mod Rooms

@@ -16,6 +16,9 @@ use Rattle.octets.proofs.Places.{take-front, drop-front, end-go, end-stop, end-
 use Rattle.header.specs.Header.{isHeader}
 use Rattle.body.specs.Body.{Body, badBody, body, blocks, readNotLast}
 use Rattle.body.specs.Walking.{part, lastNumber, verdict}
+use Rattle.body.specs.Surveying.{surveyed}
+use Rattle.body.specs.declared.judging.Survey.{Survey}
+use Rattle.body.proofs.Surveys.{survey-number}
 use Rattle.reading.specs.Lead.{Led, misled, led, isSoh, fewestNul, fewestSoh, nulLead, sohLead, leadOf}
 use Rattle.reading.specs.Reading.{Reading, refused, frame, notStx, readBody, readHeader, readLed}
 use Rattle.reading.specs.Places.{behindLead, headerIn}
@@ -58,22 +61,25 @@ pub ruleset seeking = (seek-start, seek-on, seek-found, seek-out, needs)
 -- ---- header and body behind a lead
 
 -- 7, 8 or 0 said of a body
-module _ (at : ℕ) (h : List ℕ) (n : ℕ) where
-  judged-bad : (x : Body) → n ≡ verdict x → (n ≡ 0 → ⊥) → NoBody n ≡ bodyPlace at (readBody h x)
+module _ (at : ℕ) (h : List ℕ) (v : Survey) where
+  number : (x : Body) → v ≡ surveyed x → v .number ≡ verdict x
+  number x e = ap (λ w. w .number) e ∙ survey-number x
+
+  judged-bad : (x : Body) → v ≡ surveyed x → (v .number ≡ 0 → ⊥) → NoBody (v .number) ≡ bodyPlace at (readBody h x)
   unfolding verdict readBody bodyPlace lastNumber
-  judged-bad badBody e d = ap NoBody e
+  judged-bad badBody e d = ap NoBody (number badBody e)
   judged-bad (body bs) e d =
       by-test (readNotLast false bs)
-      (λ y. let z : n ≡ 8 = rw y at e in rw y (ap NoBody z))
-      (λ y. absurd (d (rw y at e)))
+      (λ y. let z : v .number ≡ 8 = rw y at (number (body bs) e) in rw y (ap NoBody z))
+      (λ y. absurd (d (rw y at (number (body bs) e))))
 
-  judged-good : (x : Body) → n ≡ verdict x → n ≡ 0 → BodyAt (at + length h) ≡ bodyPlace at (readBody h x)
+  judged-good : (x : Body) → v ≡ surveyed x → v .number ≡ 0 → BodyAt (at + length h) v ≡ bodyPlace at (readBody h x)
   unfolding verdict readBody bodyPlace lastNumber
-  judged-good badBody e d = absurd (omega arith)
+  judged-good badBody e d = let z : v .number ≡ 7 = number badBody e in absurd (omega arith)
   judged-good (body bs) e d =
       by-test (readNotLast false bs)
-      (λ y. let z : n ≡ 8 = rw y at e in absurd (omega arith))
-      (λ y. rw y)
+      (λ y. let z : v .number ≡ 8 = rw y at (number (body bs) e) in absurd (omega arith))
+      (λ y. rw y (ap (BodyAt (at + length h)) e))
 
 -- the first STX behind the lead stands at a place, or there is none
 module _ (t : List ℕ) (header place : ℕ) (e : place ≡ header + length (front notStx (drop header t))) where
@@ -101,18 +107,18 @@ module _ (t : List ℕ) (header place : ℕ) (e : place ≡ header + length (fro
     unfolding readHeader bodyPlace
     led-header d = rw (read-here, more, ← f, d)
 
-    module _ (d : not b ≡ false) (n : ℕ) (g : n ≡ verdict (blocks BLOCKS (drop place t))) where
+    module _ (d : not b ≡ false) (v : Survey) (g : v ≡ surveyed (blocks BLOCKS (drop place t))) where
       read-on : readLed (led (drop header t)) ≡ readBody (part header place t) (blocks BLOCKS (drop place t))
       unfolding readHeader
       read-on = rw (read-here, more, ← f, d)
 
-      pub led-body : (n ≡ 0 → ⊥) → NoBody n ≡ bodyPlace header (readLed (led (drop header t)))
-      led-body m = rw read-on (judged-bad header (part header place t) n (blocks BLOCKS (drop place t)) g m)
+      pub led-body : (v .number ≡ 0 → ⊥) → NoBody (v .number) ≡ bodyPlace header (readLed (led (drop header t)))
+      led-body m = rw read-on (judged-bad header (part header place t) v (blocks BLOCKS (drop place t)) g m)
 
-      pub led-good : n ≡ 0 → BodyAt place ≡ bodyPlace header (readLed (led (drop header t)))
+      pub led-good : v .number ≡ 0 → BodyAt place v ≡ bodyPlace header (readLed (led (drop header t)))
       led-good m =
           let z : place ≡ header + length (part header place t) = rw (← head-text) e in
-          rw read-on (ap BodyAt z ∙ judged-good header (part header place t) n (blocks BLOCKS (drop place t)) g m)
+          rw read-on (ap (λ k. BodyAt k v) z ∙ judged-good header (part header place t) v (blocks BLOCKS (drop place t)) g m)
 
 pub ruleset leading = (led-none, led-header, led-body, led-good, needs)
 
@@ -182,12 +188,15 @@ module _ (printable : Bool) (t : List ℕ) (r : LeadEnd) (e : r ≡ leadEnd t (l
           go (refused m) d = let z : m ≡ n = cc in ap NoParts (sym z)
           go (frame h bs) d = let z : _≡_ {A = ℕ} 0 1 = cc in absurd (omega arith)
 
-      pub parts-good : (place : ℕ) → q ≡ BodyAt place → PartsAt header place ≡ partPlaces printable t (readLed (leadOf printable t))
+      pub parts-good : (place : ℕ) (v : Survey) → q ≡ BodyAt place v → PartsAt header place v ≡ partPlaces printable t (readLed (leadOf printable t))
       unfolding bodyPlace partPlaces
-      parts-good place d = rw (found .0) (go (readLed (led (drop header t))) (sym g ∙ d))
+      parts-good place v d = rw (found .0) (go (readLed (led (drop header t))) (sym g ∙ d))
         where
-          go : (x : Reading) → bodyPlace header x ≡ BodyAt place → PartsAt header place ≡ partPlaces printable t x
+          go : (x : Reading) → bodyPlace header x ≡ BodyAt place v → PartsAt header place v ≡ partPlaces printable t x
           go (refused m) d = let z : _≡_ {A = ℕ} 0 1 = cc in absurd (omega arith)
-          go (frame h bs) d = let z : header + length h ≡ place = cc in rw (header-at, z)
+          go (frame h bs) d =
+              let z : header + length h ≡ place = cc in
+              let w : surveyed (body bs) ≡ v = cc in
+              rw (header-at, z, w)
 
 pub ruleset parting = (parts-wrong, parts-inside, parts-refused, parts-good, needs)

@@ -4,25 +4,27 @@ use mathlib.Core.Bool.{Bool, true, false, not, _||_}
 use mathlib.Core.List.{List, []}
 use Prim.Native.Nat.{ℕ, _+_, _-_, _<_, _≤_}
 use native.Mathlib.Omega.{arith}
-use borrow.Author.Tests.{eqb-true, ltb-false, le-ltb, ne-eqb}
-use lib.ListN.{length, take, drop, length-take, drop-of-length-le}
-use lib.Seq.{take-at}
+use borrow.Author.Tests.{eqb-true, ltb-false, ne-eqb, not-false}
+use lib.ListN.{length, take, drop, drop-of-length-le}
 use Rattle.octets.specs.Choice.{_is_, _<?_, _!_, none, front, behind}
 use Rattle.octets.specs.Bytes.{NUL, SOH, ESCAPE, STANDARD, PRINTABLE, TRANSLATED, BLOCKS}
-use Rattle.octets.specs.Buffer.{overlay}
 use Rattle.octets.proofs.Tests.{compare, choice, never, or-in}
 use Rattle.header.specs.Header.{isHeader}
 use Rattle.body.specs.Body.{Block, Body, badBody, body as bodyOf, blocks, readNotLast}
 use Rattle.body.specs.Walking.{part, blocksIn, isBody, bodyAt, blocksAt}
+use Rattle.body.specs.Surveying.{surveyed}
+use Rattle.body.specs.declared.judging.Survey.{Survey}
 use Rattle.reading.specs.Translation.{Translation, untranslated, translated, translate}
 use Rattle.reading.specs.Lead.{Led, misled, led, leadOf}
 use Rattle.reading.specs.Reading.{Reading, refused, frame, notStx, readBody, readHeader, readLed}
 use Rattle.reading.specs.Reading.{readTranslated, readPrintable, readStandard, read}
-use Rattle.reading.specs.Places.{isPrintable, bytesOf, behindLead, headerIn, placesOf, readPlaces}
-use Rattle.reading.specs.Places.{fill, roomAfter, Reads}
+use Rattle.reading.specs.Places.{isPrintable, behindLead, headerIn, placesOf, readPlaces, bareRead, roomAfter, Reads}
+use Rattle.reading.specs.Walking.{partPlaces, partsView}
 use Rattle.reading.specs.declared.Read.{Read}
 use Rattle.reading.specs.declared.Read.the-variants.{Refused, Standard, Printable}
-use Rattle.reading.proofs.Rooms.{header-standard, stands-printable, header-printable}
+use Rattle.reading.specs.declared.reading.Parts.{Parts}
+use Rattle.reading.specs.declared.reading.Parts.the-variants.{At as PartsAt}
+use Rattle.reading.proofs.Rooms.{header-standard, stands-printable, header-printable, laid-front, laid-bytes, laid-roomed, read-as-other}
 use Rattle.reading.proofs.Parting.{head-text, rest-from, EndsLed, lead-ends}
 
 -- a frame whose bytes are t reads as r: its header starts at place i, its body at place j
@@ -30,6 +32,7 @@ pub record Stands (t : List ℕ) (i j : ℕ) (r : Reading) : Type 0 where
   pub blocks-list : List Block
   pub body : blocks BLOCKS (drop j t) ≡ bodyOf blocks-list
   pub reads : r ≡ frame (part i j t) blocks-list
+  pub header : isHeader (part i j t) ≡ true
   pub ordered : i ≤ j
   pub inside : j < length t
   pub short : length t ≤ 8192
@@ -54,11 +57,11 @@ some-left : (t : List ℕ) (j : ℕ) → none (drop j t) ≡ false → j < lengt
 some-left t j e = compare j (length t) (λ h. h) (λ h. never (rw (drop-of-length-le t h) at e))
 
 module _ (t : List ℕ) (i : ℕ) (s : length t ≤ 8192) where
-  stands-body : (x : Body) → none (behind notStx (drop i t)) ≡ false → blocks BLOCKS (behind notStx (drop i t)) ≡ x
-      → StandsAt t i (readBody (front notStx (drop i t)) x)
+  stands-body : (x : Body) → none (behind notStx (drop i t)) ≡ false → isHeader (front notStx (drop i t)) ≡ true
+      → blocks BLOCKS (behind notStx (drop i t)) ≡ x → StandsAt t i (readBody (front notStx (drop i t)) x)
   unfolding readBody
-  stands-body badBody m e = tt
-  stands-body (bodyOf bs) m e =
+  stands-body badBody m g e = tt
+  stands-body (bodyOf bs) m g e =
       let h = front notStx (drop i t) in
       let j = i + length h in
       let z = rest-from t i j refl in
@@ -67,6 +70,7 @@ module _ (t : List ℕ) (i : ℕ) (s : length t ≤ 8192) where
         blocks-list = bs;
         body = rw (← z) e;
         reads = ap (λ x. frame x bs) (head-text t i j refl);
+        header = rw (← head-text t i j refl) g;
         ordered = omega arith;
         inside = some-left t j (rw (← z) m);
         short = s;
@@ -77,7 +81,7 @@ module _ (t : List ℕ) (i : ℕ) (s : length t ≤ 8192) where
   stands-led =
       choice (StandsAt t i) (none (behind notStx (drop i t))) (λ m. tt)
       (λ m. choice (StandsAt t i) (not (isHeader (front notStx (drop i t)))) (λ y. tt)
-      (λ y. stands-body (blocks BLOCKS (behind notStx (drop i t))) m refl))
+      (λ y. stands-body (blocks BLOCKS (behind notStx (drop i t))) m (not-false (isHeader (front notStx (drop i t))) y) refl))
 
 -- ---- the bytes that a frame stands for
 
@@ -130,26 +134,13 @@ module _ (s room : List ℕ) where
 
   -- a printable frame that stands for t
   module _ (p : isPrintable s ≡ true) (l : length s ≤ PRINTABLE) (t : List ℕ) (d : translate s ≡ translated t) (h : length t ≤ 8192) where
-    bytes-are : bytesOf (translate s) ≡ t
-    unfolding bytesOf
-    bytes-are = rw d
-
-    room-printable : roomAfter s room ≡ overlay room t
-    unfolding roomAfter fill
-    room-printable = rw (p, le-ltb PRINTABLE (length s) l, d, le-ltb TRANSLATED (length t) h)
-
-    room-front : take (length t) (roomAfter s room) ≡ t
-    unfolding overlay
-    room-front = rw room-printable (take-at t (drop (length t) room) (length t) refl)
-
-    room-within : length t ≤ length (roomAfter s room)
-    room-within = omega (arith, ap length room-front, length-take (length t) (roomAfter s room))
-
     said-room : (x : Reading) → StandsAt t (headerIn true t) x → Said x
     unfolding placesOf
     said-room (refused n) w e = e
     said-room (frame u bs) w e =
-        rw (p, stands-printable s p, header-printable s p, bytes-are) (record { fits = h; within = room-within; counts = rw room-front; stands = rw (room-front, e) w })
+        let g = laid-roomed s room p l t d h in
+        rw (p, stands-printable s p, header-printable s p, laid-bytes s room p l t d h)
+        (record { fits = h; within = g .within; counts = g .counts; stands = rw (laid-front s room p l t d h, e) w })
 
   said-printable : isPrintable s ≡ true → Said (readPrintable s)
   unfolding readPrintable readTranslated
@@ -207,7 +198,70 @@ module _ {s room after : List ℕ} {answer : Read} (g : Reads s room answer afte
   pub reads-counts : {n i j : ℕ} → answer ≡ Printable n i j → n ≡ length (take n after)
   reads-counts e = reads-printable e .counts
 
-pub ruleset reads-as = (reads-refused, reads-standard, reads-printable, reads-within, reads-counts)
+-- of a reading without a room, where the frame is not printable
+module _ (s : List ℕ) (p : isPrintable s ≡ false) {answer : Read} (e : answer ≡ bareRead s) where
+  bare-reads : Reads s [] answer []
+  bare-reads = read-as-other s false (sym p) [] refl answer e
+
+  pub bare-refused : {n : ℕ} → answer ≡ Refused n → read s ≡ refused n
+  bare-refused f = reads-refused bare-reads f
+
+  pub bare-standard : {i j : ℕ} → answer ≡ Standard i j → Stands s i j (read s)
+  bare-standard f = reads-standard bare-reads f
+
+  -- no byte has a place in no room
+  pub bare-never {ℓ} : {X : Type ℓ} {n i j : ℕ} → answer ≡ Printable n i j → X
+  bare-never f = let w = reads-printable bare-reads f in absurd (omega (arith, w .stands .inside, w .within, w .counts))
+
+-- ---- parts
+
+-- a frame whose bytes are t stands so, and this is known of its blocks
+pub record Told (t : List ℕ) (i j : ℕ) (v : Survey) (r : Reading) : Type 0 where
+  pub stands : Stands t i j r
+  pub seen : v ≡ surveyed (blocks BLOCKS (drop j t))
+
+module _ (printable : Bool) (t : List ℕ) where
+  view-parts : (x : Reading) → StandsAt t (headerIn printable t) x → partsView t (partPlaces printable t x) ≡ x
+  unfolding partsView partPlaces
+  view-parts (refused n) w = refl
+  view-parts (frame h bs) w = sym (stands-frame w)
+
+  told-parts : (x : Reading) → StandsAt t (headerIn printable t) x → (i j : ℕ) (v : Survey) → partPlaces printable t x ≡ PartsAt i j v → Told t i j v x
+  unfolding partPlaces
+  told-parts (refused n) w i j v d = let z : _≡_ {A = ℕ} 0 1 = cc in absurd (omega arith)
+  told-parts (frame h bs) w i j v d =
+      let a : headerIn printable t ≡ i = cc in
+      let b : headerIn printable t + length h ≡ j = cc in
+      let c : surveyed (bodyOf bs) ≡ v = cc in
+      let z : w .blocks-list ≡ bs = listed (w .reads) in
+      record { stands = rw (← b, ← a) w; seen = sym c ∙ rw (← b, w .body, z) }
+    where
+      listed : {g h : List ℕ} {bs cs : List Block} → frame g bs ≡ frame h cs → cs ≡ bs
+      listed e = cc
+
+-- a frame that is not printable
+standard-stands : (s : List ℕ) → isPrintable s ≡ false → StandsAt s (headerIn false s) (read s)
+unfolding read readStandard
+standard-stands s p =
+    choice (StandsAt s (headerIn false s)) (none s) (λ y. tt)
+    (λ y. choice (StandsAt s (headerIn false s)) (s ! 0 is NUL || s ! 0 is SOH)
+    (λ e. choice (StandsAt s (headerIn false s)) (STANDARD <? length s) (λ l. tt) (λ l. stands-part false s (ltb-false STANDARD (length s) l)))
+    (λ n. rw p tt))
+
+module _ (s : List ℕ) (p : isPrintable s ≡ false) {q : Parts} (e : q ≡ partPlaces false s (read s)) where
+  pub standard-view : partsView s q ≡ read s
+  standard-view = rw e (view-parts false s (read s) (standard-stands s p))
+
+  pub standard-told : {i j : ℕ} {v : Survey} → q ≡ PartsAt i j v → Told s i j v (read s)
+  standard-told {i} {j} {v} f = told-parts false s (read s) (standard-stands s p) i j v (sym e ∙ f)
+
+-- the bytes that a printable one stands for
+module _ (t : List ℕ) (l : length t ≤ 8192) {q : Parts} (e : q ≡ partPlaces true t (readLed (leadOf true t))) where
+  pub room-view : partsView t q ≡ readLed (leadOf true t)
+  room-view = rw e (view-parts true t (readLed (leadOf true t)) (stands-part true t l))
+
+  pub room-told : {i j : ℕ} {v : Survey} → q ≡ PartsAt i j v → Told t i j v (readLed (leadOf true t))
+  room-told {i} {j} {v} f = told-parts true t (readLed (leadOf true t)) (stands-part true t l) i j v (sym e ∙ f)
 
 -- ---- places read back
 

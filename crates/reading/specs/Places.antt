@@ -49,6 +49,10 @@ placesOf s (frame h bs) =
 unfoldable pub readPlaces : List ℕ → Read
 readPlaces s = placesOf s (read s)
 
+-- what it answers without a room: to it the first byte of a printable frame is a wrong one
+unfoldable pub bareRead : List ℕ → Read
+bareRead s = if isPrintable s then Refused 4 else readPlaces s
+
 -- the room afterwards: a printable frame's bytes at its start, where it has no fault and they fit; else as it was
 unfoldable pub fill : List ℕ → Translation → List ℕ
 fill room untranslated = room

@@ -9,14 +9,16 @@ use borrow.Author.Tests.{lt-ltb, le-ltb, not-false}
 use lib.ListN.{length, take}
 use Rattle.header.specs.Addressing.{addressed}
 use Rattle.body.specs.Walking.{part, blocksAt}
-use Rattle.reading.specs.Reading.{frame, read}
-use Rattle.reading.specs.Places.{Reads}
+use Rattle.reading.specs.Reading.{refused, frame, read}
+use Rattle.reading.specs.Places.{isPrintable, bareRead, Reads}
 use Rattle.reading.specs.declared.Read.{Read}
 use Rattle.reading.specs.declared.Read.the-variants.{Refused, Standard, Printable}
 use Rattle.reading.proofs.Viewing.{Stands, stands-good, stands-frame, reads-refused, reads-standard, reads-printable, reads-within, reads-counts}
+use Rattle.reading.proofs.Viewing.{bare-refused, bare-standard, bare-never}
 use Rattle.board.specs.Soundness.{sound}
 use Rattle.board.specs.declared.Settings.{Settings}
 use Rattle.effects.specs.Effects.{board}
+use Rattle.effects.specs.Leaving.{Ready}
 use Rattle.sign.specs.Run.{nothing, state, runBlocks, outcome, ran, runFrame, run}
 use Rattle.sign.specs.Running.{answerAs, stateAs, Framed}
 use Rattle.sign.specs.declared.Tally.{Tally}
@@ -41,6 +43,63 @@ module _ (s : Settings) (m o t : List ℕ) (i j : ℕ) (b : Bool) (e : b ≡ add
 
 pub ruleset framing = (untouched-as, frame-away, frame-ran, needs)
 
+-- ---- a board that is ready
+
+module _ {s : Settings} {m o : List ℕ} (y : Ready s m o) (f : List ℕ) where
+  -- where a frame stands in bytes t
+  parted : {t : List ℕ} {i j : ℕ} → Stands t i j (read f) → Framed s m o t i j
+  parted w = record { running = record { ready = y; good = stands-good w }; ordered = w .ordered; inside = omega arith }
+
+  answered : {t : List ℕ} {i j : ℕ} → Stands t i j (read f) → (r : Answer) (m′ o′ : List ℕ) →
+      outcome r m′ o′ ≡ runFrame s m o (frame (part i j t) (blocksAt t j)) → outcome r m′ o′ ≡ runFrame s m o (read f)
+  answered w r m′ o′ q = q ∙ sym (ap (runFrame s m o) (stands-frame w))
+
+  refuses : {n : ℕ} → read f ≡ refused n → (r : Answer) → r ≡ answerAs n nothing s → outcome r m o ≡ runFrame s m o (read f)
+  unfolding runFrame
+  refuses h r q = rw (q, h)
+
+  module _ {room after : List ℕ} {x : Read} (g : Reads f room x after) where
+    -- 3 to 8
+    pub roomed-refused : {n : ℕ} → x ≡ Refused n → (r : Answer) → r ≡ answerAs n nothing s → outcome r m o ≡ runFrame s m o (read f)
+    roomed-refused h = refuses (reads-refused g h)
+
+    -- a standard frame
+    module _ {i j : ℕ} (h : x ≡ Standard i j) where
+      pub standard-parted : Framed s m o f i j
+      standard-parted = parted (reads-standard g h)
+
+      pub standard-ran : (r : Answer) (m′ o′ : List ℕ) → outcome r m′ o′ ≡ runFrame s m o (frame (part i j f) (blocksAt f j)) →
+          outcome r m′ o′ ≡ runFrame s m o (read f)
+      standard-ran = answered (reads-standard g h)
+
+    -- a printable one
+    module _ {n i j : ℕ} (h : x ≡ Printable n i j) where
+      pub printable-parted : Framed s m o (take n after) i j
+      printable-parted = parted (reads-printable g h .stands)
+
+      pub printable-ran : (r : Answer) (m′ o′ : List ℕ) →
+          outcome r m′ o′ ≡ runFrame s m o (frame (part i j (take n after)) (blocksAt (take n after) j)) → outcome r m′ o′ ≡ runFrame s m o (read f)
+      printable-ran = answered (reads-printable g h .stands)
+
+  -- the same without a room
+  module _ (p : isPrintable f ≡ false) {x : Read} (e : x ≡ bareRead f) where
+    pub bare-none : {n : ℕ} → x ≡ Refused n → (r : Answer) → r ≡ answerAs n nothing s → outcome r m o ≡ runFrame s m o (read f)
+    bare-none h = refuses (bare-refused f p e h)
+
+    module _ {i j : ℕ} (h : x ≡ Standard i j) where
+      pub bare-parted : Framed s m o f i j
+      bare-parted = parted (bare-standard f p e h)
+
+      pub bare-ran : (r : Answer) (m′ o′ : List ℕ) → outcome r m′ o′ ≡ runFrame s m o (frame (part i j f) (blocksAt f j)) →
+          outcome r m′ o′ ≡ runFrame s m o (read f)
+      bare-ran = answered (bare-standard f p e h)
+
+    pub bare-nothing : {n i j : ℕ} → x ≡ Printable n i j → (r : Answer) → outcome r m o ≡ runFrame s m o (read f)
+    bare-nothing h r = bare-never f p e h
+
+pub ruleset readied =
+    (roomed-refused, standard-parted, standard-ran, printable-parted, printable-ran, bare-none, bare-parted, bare-ran, bare-nothing, reads-within, reads-counts, needs)
+
 -- ---- a whole run
 
 module _ (s : Settings) (m o f : List ℕ) (b : Bool) (e : b ≡ sound s m) where
@@ -56,45 +115,14 @@ module _ (s : Settings) (m o f : List ℕ) (b : Bool) (e : b ≡ sound s m) wher
     run-short l r q = rw (q, ← e, y, lt-ltb (length o) (length m + 64) l)
 
     module _ (l : length m + 64 ≤ length o) where
-      run-on : run s m o f ≡ runFrame s m o (read f)
+      pub run-ready : Ready s m o
+      run-ready = record { sound = sym e ∙ not-false b y; room = l }
+
+      pub run-on : (r : Answer) (m′ o′ : List ℕ) → outcome r m′ o′ ≡ runFrame s m o (read f) → outcome r m′ o′ ≡ run s m o f
       unfolding run
-      run-on = rw (← e, y, le-ltb (length o) (length m + 64) l)
+      run-on r m′ o′ q = q ∙ rw (← e, y, le-ltb (length o) (length m + 64) l)
 
-      -- where a frame stands in bytes t
-      parted : {t : List ℕ} {i j : ℕ} → Stands t i j (read f) → Framed s m o t i j
-      parted w =
-          record {
-            running = record { ready = record { sound = sym e ∙ not-false b y; room = l }; good = stands-good w };
-            ordered = w .ordered;
-            inside = omega arith;
-          }
+pub run-other : (f : List ℕ) (t : Bool) → t ≡ isPrintable f → t ≡ false → isPrintable f ≡ false
+run-other f t e h = sym e ∙ h
 
-      answered : {t : List ℕ} {i j : ℕ} → Stands t i j (read f) → (r : Answer) (m′ o′ : List ℕ) →
-          outcome r m′ o′ ≡ runFrame s m o (frame (part i j t) (blocksAt t j)) → outcome r m′ o′ ≡ run s m o f
-      answered w r m′ o′ q = q ∙ sym (run-on ∙ ap (runFrame s m o) (stands-frame w))
-
-      module _ {room after : List ℕ} {x : Read} (g : Reads f room x after) where
-        -- 3 to 8
-        pub run-refused : {n : ℕ} → x ≡ Refused n → (r : Answer) → r ≡ answerAs n nothing s → outcome r m o ≡ run s m o f
-        unfolding runFrame
-        run-refused h r q = rw (q, run-on, reads-refused g h)
-
-        -- a standard frame
-        module _ {i j : ℕ} (h : x ≡ Standard i j) where
-          pub standard-parted : Framed s m o f i j
-          standard-parted = parted (reads-standard g h)
-
-          pub standard-ran : (r : Answer) (m′ o′ : List ℕ) → outcome r m′ o′ ≡ runFrame s m o (frame (part i j f) (blocksAt f j)) →
-              outcome r m′ o′ ≡ run s m o f
-          standard-ran = answered (reads-standard g h)
-
-        -- a printable one
-        module _ {n i j : ℕ} (h : x ≡ Printable n i j) where
-          pub printable-parted : Framed s m o (take n after) i j
-          printable-parted = parted (reads-printable g h .stands)
-
-          pub printable-ran : (r : Answer) (m′ o′ : List ℕ) →
-              outcome r m′ o′ ≡ runFrame s m o (frame (part i j (take n after)) (blocksAt (take n after) j)) → outcome r m′ o′ ≡ run s m o f
-          printable-ran = answered (reads-printable g h .stands)
-
-pub ruleset answering = (run-unsound, run-short, run-refused, standard-parted, standard-ran, printable-parted, printable-ran, reads-within, reads-counts, needs)
+pub ruleset answering = (run-unsound, run-short, run-ready, run-on, run-other, needs)

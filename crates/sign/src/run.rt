@@ -10,16 +10,21 @@ use commands::blocks::run_block;
 use frame::BlockStep;
 use frame::Read;
 use frame::addressed;
+use frame::is_printable;
 use frame::read;
+use frame::read_bare;
 use frame::step_from;
 use octets::bytes::BLOCKS;
 ghost use mathlib.Core.Path.{_≡_};
+ghost use mathlib.Core.Bool.{false};
 ghost use Prim.Native.Nat.{_+_, _<_};
 ghost use Rattle.octets.specs.Bytes.{BLOCKS};
 ghost use Rattle.body.specs.Body.{block};
 ghost use Rattle.body.specs.Walking.{part, blocksAt};
-ghost use Rattle.reading.specs.Reading.{frame};
+ghost use Rattle.reading.specs.Reading.{frame, read};
+ghost use Rattle.reading.specs.Places.{isPrintable};
 ghost use Rattle.effects.specs.Effects.{board};
+ghost use Rattle.effects.specs.Leaving.{Ready};
 ghost use Rattle.commands.specs.Blocks.{runBlock};
 ghost use Rattle.sign.specs.Run.{nothing, count, measure, state, onto, runBlocks, outcome, runFrame, run};
 ghost use Rattle.sign.specs.Running.{answerAs, Runnable, Running, Framed, stateAs};
@@ -183,16 +188,11 @@ fn run_frame(
     }
 }
 
-// Running: a frame on a board, with a reply buffer.
-pub fn run(s: Settings, m: &mut [u8], out: &mut [u8], bytes: &[u8]) -> Answer
-    ensures { λ r. ⌜ outcome r (now (m .exit)) (now (out .exit)) ≡ run s (now (m .entry)) (now (out .entry)) (now (bytes .entry)) ⌝ }
+// Any frame on a sound board: a printable one needs a room for the bytes that it stands for.
+fn run_roomed(s: Settings, m: &mut [u8], out: &mut [u8], bytes: &[u8]) -> Answer
+    requires { ⌜ Ready s (now m) (now out) ⌝ }
+    ensures { λ r. ⌜ outcome r (now (m .exit)) (now (out .exit)) ≡ runFrame s (now (m .entry)) (now (out .entry)) (read (now (bytes .entry))) ⌝ }
 {
-    if !sound(s, m) {
-        return untouched(s, NOT_SOUND);
-    }
-    if out.len() < m.len() + REPLY_ROOM {
-        return untouched(s, REPLY_TOO_SHORT);
-    }
     let mut room = [0u8; 8192];
     // An answer is handed back where it is made: as the value of the match its settings would be copied once more.
     match read(bytes, &mut room) {
@@ -204,4 +204,38 @@ pub fn run(s: Settings, m: &mut [u8], out: &mut [u8], bytes: &[u8]) -> Answer
             body,
         } => return run_frame(s, m, out, &room[..length], header, body),
     }
+}
+
+// One that is not printable needs none: this stands by itself, so that no room is cleared for it.
+fn run_bare(s: Settings, m: &mut [u8], out: &mut [u8], bytes: &[u8]) -> Answer
+    requires { ⌜ Ready s (now m) (now out) ⌝ }
+    requires { ⌜ isPrintable (now bytes) ≡ false ⌝ }
+    ensures { λ r. ⌜ outcome r (now (m .exit)) (now (out .exit)) ≡ runFrame s (now (m .entry)) (now (out .entry)) (read (now (bytes .entry))) ⌝ }
+{
+    match read_bare(bytes) {
+        Read::Refused(number) => return untouched(s, number),
+        Read::Standard { header, body } => return run_frame(s, m, out, bytes, header, body),
+        // no such answer comes without a room
+        Read::Printable {
+            length: _,
+            header: _,
+            body: _,
+        } => return untouched(s, 0),
+    }
+}
+
+// Running: a frame on a board, with a reply buffer.
+pub fn run(s: Settings, m: &mut [u8], out: &mut [u8], bytes: &[u8]) -> Answer
+    ensures { λ r. ⌜ outcome r (now (m .exit)) (now (out .exit)) ≡ run s (now (m .entry)) (now (out .entry)) (now (bytes .entry)) ⌝ }
+{
+    if !sound(s, m) {
+        return untouched(s, NOT_SOUND);
+    }
+    if out.len() < m.len() + REPLY_ROOM {
+        return untouched(s, REPLY_TOO_SHORT);
+    }
+    if is_printable(bytes) {
+        return run_roomed(s, m, out, bytes);
+    }
+    run_bare(s, m, out, bytes)
 }

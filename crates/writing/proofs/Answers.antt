@@ -1,13 +1,16 @@
--- The answers of the calls: numbers, lengths, and what is put where there is room.
+-- The answers of the calls: forms, numbers and lengths.
 use mathlib.Core.Path.{_≡_}
 use mathlib.Core.Bool.{false}
 use Prim.Native.Nat.{ℕ, _<_, _≤_}
+use native.Mathlib.Omega.{arith}
 use borrow.Author.Needs.{needs}
-use borrow.Author.Tests.{ne-eqb, le-leb, lt-leb, lt-ltb, le-ltb}
-use Rattle.octets.specs.Choice.{_is_, _≤?_}
-use Rattle.octets.specs.Bytes.{BLOCKS}
-use Rattle.writing.specs.Output.{isForm}
-use Rattle.writing.specs.Sources.{standardForm, longest, fitNumber}
+use borrow.Author.Tests.{le-leb, lt-leb, lt-ltb, le-ltb}
+use Rattle.octets.specs.Choice.{_≤?_}
+use Rattle.octets.specs.Bytes.{BLOCKS, TRANSLATED}
+use Rattle.forms.specs.Lengths.{formLength, renderLength, Known}
+use Rattle.writing.specs.Output.{isForm, writtenAs}
+use Rattle.writing.specs.Sources.{Reckoned, fitted}
+use Rattle.writing.specs.declared.Written.{Written}
 
 -- ---- forms
 
@@ -18,42 +21,32 @@ module _ (form : ℕ) where
   pub form-some : 1 ≤ form → form ≤? 3 ≡ isForm form
   form-some h = rw (le-leb 1 form h)
 
-  pub standard-printable : form ≡ 3 → 2 ≡ standardForm form
-  unfolding standardForm
-  standard-printable t = rw t
+-- ---- numbers and lengths
 
-  pub standard-other : (form ≡ 3 → ⊥) → form ≡ standardForm form
-  unfolding standardForm
-  standard-other t = rw (ne-eqb form 3 t)
+module _ (form h n t e room : ℕ) where
+  pub fit-known : Reckoned h n t e → Known h n t
+  fit-known g = record { first = omega (arith, g .header); second = omega (arith, g .count); third = omega (arith, g .text) }
 
-  pub longest-printable : form ≡ 3 → 8197 ≡ longest form
-  unfolding longest
-  longest-printable t = rw t
+  pub fit-many : BLOCKS < n → (r : Written) → r ≡ writtenAs 18 0 → r ≡ fitted form h n t e room
+  unfolding fitted
+  fit-many k r q = rw (q, lt-ltb BLOCKS n k)
 
-  pub longest-other : (form ≡ 3 → ⊥) → 8192 ≡ longest form
-  unfolding longest
-  longest-other t = rw (ne-eqb form 3 t)
+  module _ (a : n ≤ BLOCKS) (long : ℕ) (l : long ≡ formLength form h n t) where
+    pub fit-long : TRANSLATED < long → (r : Written) → r ≡ writtenAs 18 0 → r ≡ fitted form h n t e room
+    unfolding fitted
+    fit-long k r q = rw (q, le-ltb BLOCKS n a, ← l, lt-ltb TRANSLATED long k)
 
--- ---- numbers
+    module _ (b : long ≤ TRANSLATED) where
+      pub fit-reckoned : Reckoned h n t e → Known long n e
+      fit-reckoned g = record { first = omega arith; second = omega arith; third = omega (arith, g .escapes) }
 
-module _ (form count full raw room : ℕ) where
-  pub fit-many : BLOCKS < count → 18 ≡ fitNumber form count full raw room
-  unfolding fitNumber
-  fit-many h = rw (lt-ltb BLOCKS count h)
+      module _ (raw : ℕ) (c : raw ≡ renderLength form long n e) where
+        pub fit-full : room < raw → (r : Written) → r ≡ writtenAs 14 0 → r ≡ fitted form h n t e room
+        unfolding fitted
+        fit-full k r q = rw (q, le-ltb BLOCKS n a, ← l, le-ltb TRANSLATED long b, ← c, lt-ltb room raw k)
 
-  module _ (a : count ≤ BLOCKS) {most : ℕ} (l : most ≡ longest form) where
-    pub fit-long : most < full → 18 ≡ fitNumber form count full raw room
-    unfolding fitNumber
-    fit-long h = rw (le-ltb BLOCKS count a, ← l, lt-ltb most full h)
+        pub fit-good : raw ≤ room → writtenAs 0 raw ≡ fitted form h n t e room
+        unfolding fitted
+        fit-good k = rw (le-ltb BLOCKS n a, ← l, le-ltb TRANSLATED long b, ← c, le-ltb room raw k)
 
-    module _ (b : full ≤ most) where
-      pub fit-full : room < raw → 14 ≡ fitNumber form count full raw room
-      unfolding fitNumber
-      fit-full h = rw (le-ltb BLOCKS count a, ← l, le-ltb most full b, lt-ltb room raw h)
-
-      pub fit-good : raw ≤ room → 0 ≡ fitNumber form count full raw room
-      unfolding fitNumber
-      fit-good h = rw (le-ltb BLOCKS count a, ← l, le-ltb most full b, le-ltb room raw h)
-
-pub ruleset answering =
-    (form-below, form-some, standard-printable, standard-other, longest-printable, longest-other, fit-many, fit-long, fit-full, fit-good, needs)
+pub ruleset answering = (form-below, form-some, fit-known, fit-many, fit-long, fit-reckoned, fit-full, fit-good, needs)

@@ -2,7 +2,7 @@
 use Rattle.forms.specs.Forms.{plainRest, plainBody, summedBody, nuls, bodyIn, formOf, isItself, escape, render}
 use Rattle.writing.specs.Output.{isOver, putNumber, put}
 use Rattle.writing.specs.Writing.{write}
-use Rattle.writing.specs.Reforming.{allRight, checked, putRead, reform}
+use Rattle.writing.specs.Reforming.{checked, putRead, reform}
 use Rattle.writing.specs.Joining.{putJoined, join}
 use Rattle.reading.proofs.Computing.{reads}
 
@@ -13,6 +13,6 @@ unfolding
     plainRest plainBody summedBody nuls bodyIn formOf isItself escape render
     isOver putNumber put
     write
-    allRight checked putRead reform
+    checked putRead reform
     putJoined join
 writes = tt

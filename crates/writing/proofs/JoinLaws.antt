@@ -1,116 +1,159 @@
 -- Joining, number by number.
-use mathlib.Core.Path.{_≡_, _∙_}
+use mathlib.Core.Path.{_≡_, refl, sym, _∙_}
 use mathlib.Core.Bool.{Bool, true, false, not}
 use mathlib.Core.List.{List, _++_}
-use Prim.Native.Nat.{ℕ}
+use Prim.Native.Nat.{ℕ, _≤_}
 use borrow.Author.Needs.{needs}
-use borrow.Author.Tests.{not-true, not-false}
-use lib.ListN.{take}
+use lib.ListN.{length, take}
 use Rattle.octets.specs.Choice.{same}
+use Rattle.octets.specs.Bytes.{TRANSLATED}
 use Rattle.header.specs.Capitals.{headerCapitals}
-use Rattle.body.specs.Body.{Block, hasRead}
-use Rattle.body.specs.Walking.{part, bodyAt, blocksAt}
-use Rattle.reading.specs.Reading.{frame, read}
+use Rattle.body.specs.Body.{Block}
+use Rattle.body.specs.Walking.{part, blocksAt}
+use Rattle.body.specs.declared.judging.Survey.{Survey}
+use Rattle.reading.specs.Lead.{leadOf}
+use Rattle.reading.specs.Reading.{Reading, refused, frame, readLed, read}
 use Rattle.reading.specs.Capitals.{inCapitals}
-use Rattle.reading.specs.Places.{Reads}
-use Rattle.reading.specs.declared.Read.{Read}
-use Rattle.reading.specs.declared.Read.the-variants.{Refused, Standard, Printable}
-use Rattle.reading.proofs.Viewing.{reads-refused}
+use Rattle.reading.specs.Places.{isPrintable}
+use Rattle.reading.specs.Walking.{partPlaces, partsView, Translates}
+use Rattle.reading.specs.declared.reading.Parts.{Parts}
+use Rattle.reading.specs.declared.reading.Parts.the-variants.{At, Refused}
+use Rattle.reading.specs.declared.reading.Translated.{Translated}
+use Rattle.reading.specs.declared.reading.Translated.the-variants.{Bytes, Refused as NoBytes}
 use Rattle.writing.specs.declared.Written.{Written}
-use Rattle.writing.specs.Output.{isForm, output, writtenAs, put}
-use Rattle.writing.specs.Reforming.{allRight, checked}
+use Rattle.writing.specs.Output.{Output, isForm, output, writtenAs, unwritten, put}
+use Rattle.writing.specs.Reforming.{checked}
 use Rattle.writing.specs.Joining.{putJoined, join}
-use Rattle.writing.specs.Sources.{Parted, Pair}
-use Rattle.writing.proofs.ReformLaws.{standard-frame, printable-frame, readings}
-
--- ---- the frames
-
-pub parted-good : {s : List ℕ} {i j : ℕ} → Parted s i j → bodyAt s j ≡ true
-parted-good g = g .source .good
-
-pub parted-pair : {s : List ℕ} {i j : ℕ} {t : List ℕ} {k l : ℕ} → Parted s i j → Parted t k l → Pair s i j t l
-parted-pair g k = record { first = g; second = k .source }
+use Rattle.writing.specs.Sources.{Parted, PartsOf}
+use Rattle.writing.proofs.Reckonings.{seen-read, parted-source}
+use Rattle.writing.proofs.PartLaws.{parted, made-none, made-wrong, made-good, made-untranslated, made-translated, made-room, made-standard}
 
 -- ---- both frames are right
 
-module _ (form : ℕ) (h : List ℕ) (bs : List Block) (g : List ℕ) (cs : List Block) (o : List ℕ) where
-  module _ (t : Bool) (e : t ≡ same h g) where
-    pub join-differ : not t ≡ true → (r : Written) → r ≡ writtenAs 12 0 → output r o ≡ putJoined form (frame h bs) (frame g cs) o
+module _ (form : ℕ) {s : List ℕ} {i j : ℕ} {v : Survey} (g : Parted s i j v) (h : List ℕ) (cs : List Block) (o : List ℕ)
+    (u : Bool) (e : u ≡ same (headerCapitals (part i j s)) h) where
+  pub join-differ : not u ≡ true → (r : Written) → r ≡ writtenAs 12 0
+      → output r o ≡ putJoined form (frame (headerCapitals (part i j s)) (blocksAt s j)) (frame h cs) o
+  unfolding putJoined
+  join-differ f r w = rw (w, ← e, f)
+
+  module _ (f : not u ≡ false) where
+    pub join-reads : v .read ≡ true → (r : Written) → r ≡ writtenAs 13 0
+        → output r o ≡ putJoined form (frame (headerCapitals (part i j s)) (blocksAt s j)) (frame h cs) o
     unfolding putJoined
-    join-differ f r w = rw (w, ← e, f)
+    join-reads l r w = rw (w, ← e, f, ← seen-read (g .source), l)
 
-    module _ (f : not t ≡ false) (u : Bool) (k : u ≡ hasRead bs) where
-      pub join-reads : u ≡ true → (r : Written) → r ≡ writtenAs 13 0 → output r o ≡ putJoined form (frame h bs) (frame g cs) o
-      unfolding putJoined
-      join-reads l r w = rw (w, ← e, f, ← k, l)
+    pub join-calm : v .read ≡ false → (r : Written) (o₁ : List ℕ) → output r o₁ ≡ put form (headerCapitals (part i j s)) (blocksAt s j ++ cs) o
+        → output r o₁ ≡ putJoined form (frame (headerCapitals (part i j s)) (blocksAt s j)) (frame h cs) o
+    unfolding putJoined
+    join-calm l r o₁ w = w ∙ rw (← e, f, ← seen-read (g .source), l)
 
-      pub join-calm : u ≡ false → (r : Written) (o₁ : List ℕ) → output r o₁ ≡ put form h (bs ++ cs) o
-          → output r o₁ ≡ putJoined form (frame h bs) (frame g cs) o
-      unfolding putJoined
-      join-calm l r o₁ w = w ∙ rw (← e, f, ← k, l)
+pub ruleset joining = (parted-source, join-differ, join-reads, join-calm, needs)
 
-  -- the second's sums
-  module _ (t : Bool) (e : t ≡ allRight cs) where
-    pub join-second-wrong : not t ≡ true → (r : Written) → r ≡ writtenAs 17 0 → output r o ≡ putJoined form (frame h bs) (checked (frame g cs)) o
-    unfolding putJoined checked
-    join-second-wrong f r w = rw (w, ← e, not-true t f)
+-- ---- the first frame is read: what is made of the second
 
-    pub join-second-right : not t ≡ false → (r : Written) (o₁ : List ℕ) → output r o₁ ≡ putJoined form (frame h bs) (frame g cs) o
-        → output r o₁ ≡ putJoined form (frame h bs) (checked (frame g cs)) o
-    unfolding checked
-    join-second-right f r o₁ w = w ∙ rw (← e, not-false t f)
+module _ (form : ℕ) (h : List ℕ) (bs : List Block) (o : List ℕ) where
+  abbrev second : Reading → Output
+  second x = putJoined form (frame h bs) x o
 
-pub ruleset joining = (parted-good, parted-pair, join-differ, join-reads, join-calm, join-second-wrong, join-second-right, needs)
+  second-dead : (n : ℕ) → second (refused n) ≡ unwritten n o
+  unfolding putJoined
+  second-dead n = refl
 
--- ---- the first frame is read
+  module _ (t : List ℕ) {q : Parts} where
+    pub second-none : {n : ℕ} → q ≡ Refused n → (r : Written) → r ≡ writtenAs n 0
+        → output r o ≡ putJoined form (frame h bs) (checked (inCapitals (partsView t q))) o
+    second-none e r f = made-none second o second-dead t e r f
 
-module _ (form : ℕ) (h : List ℕ) (bs : List Block) (second o : List ℕ) (t : Bool) (e : t ≡ allRight bs) where
-  pub join-first-wrong : not t ≡ true → (r : Written) → r ≡ writtenAs 17 0 → output r o ≡ putJoined form (checked (frame h bs)) (checked (inCapitals (read second))) o
-  unfolding putJoined checked
-  join-first-wrong f r w = rw (w, ← e, not-true t f)
+    module _ {i j : ℕ} {v : Survey} (e : q ≡ At i j v) (g : PartsOf t q) where
+      pub second-wrong : not (v .right) ≡ true → (r : Written) → r ≡ writtenAs 17 0
+          → output r o ≡ putJoined form (frame h bs) (checked (inCapitals (partsView t q))) o
+      second-wrong f r w = made-wrong second o second-dead t e g f r w
 
-  module _ (f : not t ≡ false) {room after : List ℕ} {answer : Read} (g : Reads second room answer after) where
-    pub second-refused : {n : ℕ} → answer ≡ Refused n → (r : Written) → r ≡ writtenAs n 0
-        → output r o ≡ putJoined form (checked (frame h bs)) (checked (inCapitals (read second))) o
-    unfolding putJoined checked inCapitals
-    second-refused k r w = rw (w, ← e, not-false t f, reads-refused g k)
+      pub second-good : not (v .right) ≡ false → (r : Written) (o₁ : List ℕ)
+          → output r o₁ ≡ putJoined form (frame h bs) (frame (headerCapitals (part i j t)) (blocksAt t j)) o
+          → output r o₁ ≡ putJoined form (frame h bs) (checked (inCapitals (partsView t q))) o
+      second-good f r o₁ w = made-good second o second-dead t e g f r o₁ w
 
-    pub second-standard : {i j : ℕ} → answer ≡ Standard i j → (r : Written) (o₁ : List ℕ)
-        → output r o₁ ≡ putJoined form (frame h bs) (checked (frame (headerCapitals (part i j second)) (blocksAt second j))) o
-        → output r o₁ ≡ putJoined form (checked (frame h bs)) (checked (inCapitals (read second))) o
-    unfolding checked
-    second-standard k r o₁ w = w ∙ rw (← e, not-false t f, standard-frame g k)
+  module _ (r : Written) (o₁ : List ℕ) where
+    pub second-room : (t : List ℕ) → length t ≤ TRANSLATED → (q : Parts) → q ≡ partPlaces true t (readLed (leadOf true t))
+        → output r o₁ ≡ putJoined form (frame h bs) (checked (inCapitals (partsView t q))) o
+        → output r o₁ ≡ putJoined form (frame h bs) (checked (inCapitals (readLed (leadOf true t)))) o
+    second-room t l q e w = made-room second (output r o₁) t l e w
 
-    pub second-printable : {n i j : ℕ} → answer ≡ Printable n i j → (r : Written) (o₁ : List ℕ)
-        → output r o₁ ≡ putJoined form (frame h bs) (checked (frame (headerCapitals (part i j (take n after))) (blocksAt (take n after) j))) o
-        → output r o₁ ≡ putJoined form (checked (frame h bs)) (checked (inCapitals (read second))) o
-    unfolding checked
-    second-printable k r o₁ w = w ∙ rw (← e, not-false t f, printable-frame g k)
+    pub second-translated : (t : List ℕ) → isPrintable t ≡ true → {room after : List ℕ} {answer : Translated} → Translates t room answer after
+        → {n : ℕ} → answer ≡ Bytes n → output r o₁ ≡ putJoined form (frame h bs) (checked (inCapitals (readLed (leadOf true (take n after))))) o
+        → output r o₁ ≡ putJoined form (frame h bs) (checked (inCapitals (read t))) o
+    second-translated t p g e w = made-translated second (output r o₁) t p g e w
 
-pub ruleset seconds = (parted-good, readings, join-first-wrong, second-refused, second-standard, second-printable, needs)
+    pub second-standard : (t : List ℕ) (b : Bool) → b ≡ isPrintable t → b ≡ false → (q : Parts) → q ≡ partPlaces false t (read t)
+        → output r o₁ ≡ putJoined form (frame h bs) (checked (inCapitals (partsView t q))) o
+        → output r o₁ ≡ putJoined form (frame h bs) (checked (inCapitals (read t))) o
+    second-standard t b k l q d w = made-standard second (output r o₁) t (sym k ∙ l) d w
+
+  pub second-untranslated : (t : List ℕ) → isPrintable t ≡ true → {room after : List ℕ} {answer : Translated} → Translates t room answer after
+      → {n : ℕ} → answer ≡ NoBytes n → (r : Written) → r ≡ writtenAs n 0 → output r o ≡ putJoined form (frame h bs) (checked (inCapitals (read t))) o
+  second-untranslated t p g e r f = made-untranslated second o second-dead t p g e r f
+
+pub ruleset seconds =
+    (parted, second-none, second-wrong, second-good, second-room, second-translated, second-standard, second-untranslated, needs)
+
+-- ---- what is made of the first
+
+module _ (form : ℕ) (y : Reading) (o : List ℕ) where
+  abbrev first : Reading → Output
+  first x = putJoined form x y o
+
+  first-dead : (n : ℕ) → first (refused n) ≡ unwritten n o
+  unfolding putJoined
+  first-dead n = refl
+
+  module _ (s : List ℕ) {q : Parts} where
+    pub first-none : {n : ℕ} → q ≡ Refused n → (r : Written) → r ≡ writtenAs n 0
+        → output r o ≡ putJoined form (checked (inCapitals (partsView s q))) y o
+    first-none e r f = made-none first o first-dead s e r f
+
+    module _ {i j : ℕ} {v : Survey} (e : q ≡ At i j v) (g : PartsOf s q) where
+      pub first-wrong : not (v .right) ≡ true → (r : Written) → r ≡ writtenAs 17 0
+          → output r o ≡ putJoined form (checked (inCapitals (partsView s q))) y o
+      first-wrong f r w = made-wrong first o first-dead s e g f r w
+
+      pub first-good : not (v .right) ≡ false → (r : Written) (o₁ : List ℕ)
+          → output r o₁ ≡ putJoined form (frame (headerCapitals (part i j s)) (blocksAt s j)) y o
+          → output r o₁ ≡ putJoined form (checked (inCapitals (partsView s q))) y o
+      first-good f r o₁ w = made-good first o first-dead s e g f r o₁ w
+
+  module _ (r : Written) (o₁ : List ℕ) where
+    pub first-room : (t : List ℕ) → length t ≤ TRANSLATED → (q : Parts) → q ≡ partPlaces true t (readLed (leadOf true t))
+        → output r o₁ ≡ putJoined form (checked (inCapitals (partsView t q))) y o
+        → output r o₁ ≡ putJoined form (checked (inCapitals (readLed (leadOf true t)))) y o
+    first-room t l q e w = made-room first (output r o₁) t l e w
+
+    pub first-translated : (t : List ℕ) → isPrintable t ≡ true → {room after : List ℕ} {answer : Translated} → Translates t room answer after
+        → {n : ℕ} → answer ≡ Bytes n → output r o₁ ≡ putJoined form (checked (inCapitals (readLed (leadOf true (take n after))))) y o
+        → output r o₁ ≡ putJoined form (checked (inCapitals (read t))) y o
+    first-translated t p g e w = made-translated first (output r o₁) t p g e w
+
+  pub first-untranslated : (t : List ℕ) → isPrintable t ≡ true → {room after : List ℕ} {answer : Translated} → Translates t room answer after
+      → {n : ℕ} → answer ≡ NoBytes n → (r : Written) → r ≡ writtenAs n 0 → output r o ≡ putJoined form (checked (inCapitals (read t))) y o
+  first-untranslated t p g e r f = made-untranslated first o first-dead t p g e r f
+
+pub ruleset firsts = (parted, first-none, first-wrong, first-good, first-room, first-translated, first-untranslated, needs)
 
 -- ---- joining
 
-module _ (form : ℕ) (first second o : List ℕ) (t : Bool) (e : t ≡ isForm form) where
-  pub join-form : not t ≡ true → (r : Written) → r ≡ writtenAs 15 0 → output r o ≡ join form first second o
+module _ (form : ℕ) (s t o : List ℕ) (u : Bool) (e : u ≡ isForm form) where
+  pub join-form : not u ≡ true → (r : Written) → r ≡ writtenAs 15 0 → output r o ≡ join form s t o
   unfolding join
   join-form f r w = rw (w, ← e, f)
 
-  module _ (f : not t ≡ false) {room after : List ℕ} {answer : Read} (g : Reads first room answer after) where
-    pub first-refused : {n : ℕ} → answer ≡ Refused n → (r : Written) → r ≡ writtenAs n 0 → output r o ≡ join form first second o
-    unfolding join checked putJoined inCapitals
-    first-refused k r w = rw (w, ← e, f, reads-refused g k)
-
-    pub first-standard : {i j : ℕ} → answer ≡ Standard i j → (r : Written) (o₁ : List ℕ)
-        → output r o₁ ≡ putJoined form (checked (frame (headerCapitals (part i j first)) (blocksAt first j))) (checked (inCapitals (read second))) o
-        → output r o₁ ≡ join form first second o
+  module _ (f : not u ≡ false) (r : Written) (o₁ : List ℕ) where
+    pub join-read : output r o₁ ≡ putJoined form (checked (inCapitals (read s))) (checked (inCapitals (read t))) o → output r o₁ ≡ join form s t o
     unfolding join
-    first-standard k r o₁ w = w ∙ rw (← e, f, standard-frame g k)
+    join-read w = w ∙ rw (← e, f)
 
-    pub first-printable : {n i j : ℕ} → answer ≡ Printable n i j → (r : Written) (o₁ : List ℕ)
-        → output r o₁ ≡ putJoined form (checked (frame (headerCapitals (part i j (take n after))) (blocksAt (take n after) j))) (checked (inCapitals (read second))) o
-        → output r o₁ ≡ join form first second o
-    unfolding join
-    first-printable k r o₁ w = w ∙ rw (← e, f, printable-frame g k)
+    pub join-standard : (b : Bool) → b ≡ isPrintable s → b ≡ false → (q : Parts) → q ≡ partPlaces false s (read s)
+        → output r o₁ ≡ putJoined form (checked (inCapitals (partsView s q))) (checked (inCapitals (read t))) o → output r o₁ ≡ join form s t o
+    join-standard b k l q d w = join-read (made-standard (first form (checked (inCapitals (read t))) o) (output r o₁) s (sym k ∙ l) d w)
 
-pub ruleset firsts = (readings, join-form, first-refused, first-standard, first-printable, needs)
+pub ruleset joins = (parted, join-form, join-read, join-standard, needs)

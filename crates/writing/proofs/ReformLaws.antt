@@ -1,81 +1,79 @@
 -- Re-forming, number by number.
-use mathlib.Core.Path.{_≡_, ap, _∙_}
+use mathlib.Core.Path.{_≡_, refl, sym, _∙_}
 use mathlib.Core.Bool.{Bool, true, false, not}
 use mathlib.Core.List.{List}
-use Prim.Native.Nat.{ℕ}
-use native.Mathlib.Omega.{arith}
+use Prim.Native.Nat.{ℕ, _≤_}
 use borrow.Author.Needs.{needs}
-use borrow.Author.Tests.{not-true, not-false}
-use lib.ListN.{take}
+use lib.ListN.{length, take}
+use Rattle.octets.specs.Bytes.{TRANSLATED}
 use Rattle.header.specs.Capitals.{headerCapitals}
-use Rattle.body.specs.Body.{Block}
 use Rattle.body.specs.Walking.{part, blocksAt}
-use Rattle.reading.specs.Reading.{Reading, frame, read}
+use Rattle.body.specs.declared.judging.Survey.{Survey}
+use Rattle.reading.specs.Lead.{leadOf}
+use Rattle.reading.specs.Reading.{Reading, refused, readLed, read}
 use Rattle.reading.specs.Capitals.{inCapitals}
-use Rattle.reading.specs.Places.{Reads}
-use Rattle.reading.specs.declared.Read.{Read}
-use Rattle.reading.specs.declared.Read.the-variants.{Refused, Standard, Printable}
-use Rattle.reading.proofs.Viewing.{Stands, stands-good, stands-frame, reads-refused, reads-standard, reads-printable, reads-within, reads-counts}
+use Rattle.reading.specs.Places.{isPrintable}
+use Rattle.reading.specs.Walking.{partPlaces, partsView, Translates}
+use Rattle.reading.specs.declared.reading.Parts.{Parts}
+use Rattle.reading.specs.declared.reading.Parts.the-variants.{At, Refused}
+use Rattle.reading.specs.declared.reading.Translated.{Translated}
+use Rattle.reading.specs.declared.reading.Translated.the-variants.{Bytes, Refused as NoBytes}
 use Rattle.writing.specs.declared.Written.{Written}
-use Rattle.writing.specs.Output.{isForm, output, writtenAs, put}
-use Rattle.writing.specs.Reforming.{allRight, checked, putRead, reform}
-use Rattle.writing.specs.Sources.{Parted}
+use Rattle.writing.specs.Output.{Output, isForm, output, writtenAs, unwritten, put}
+use Rattle.writing.specs.Reforming.{checked, putRead, reform}
+use Rattle.writing.specs.Sources.{PartsOf}
+use Rattle.writing.proofs.PartLaws.{parted, made-none, made-wrong, made-good, made-untranslated, made-translated, made-room, made-standard}
 
--- ---- a frame that was read, by its places
+module _ (form : ℕ) (o : List ℕ) where
+  -- what is made of a reading
+  abbrev made : Reading → Output
+  made x = putRead form x o
 
-module _ {s : List ℕ} {i j : ℕ} {r : Reading} (w : Stands s i j r) where
-  pub stands-parted : Parted s i j
-  stands-parted =
-      record { source = record { good = stands-good w; short = w .short }; ordered = w .ordered; inside = omega (arith, w .inside) }
+  dead : (n : ℕ) → made (refused n) ≡ unwritten n o
+  unfolding putRead
+  dead n = refl
 
--- what a reading answers, and leaves in a room of 8,192 bytes
-module _ {s room after : List ℕ} {answer : Read} (g : Reads s room answer after) where
-  pub standard-parted : {i j : ℕ} → answer ≡ Standard i j → Parted s i j
-  standard-parted e = stands-parted (reads-standard g e)
+  module _ (s : List ℕ) {q : Parts} where
+    pub reform-none : {n : ℕ} → q ≡ Refused n → (r : Written) → r ≡ writtenAs n 0 → output r o ≡ putRead form (checked (inCapitals (partsView s q))) o
+    reform-none e r f = made-none made o dead s e r f
 
-  pub standard-frame : {i j : ℕ} → answer ≡ Standard i j → inCapitals (read s) ≡ frame (headerCapitals (part i j s)) (blocksAt s j)
-  unfolding inCapitals
-  standard-frame e = ap inCapitals (stands-frame (reads-standard g e))
+    module _ {i j : ℕ} {v : Survey} (e : q ≡ At i j v) (g : PartsOf s q) where
+      pub reform-wrong : not (v .right) ≡ true → (r : Written) → r ≡ writtenAs 17 0 → output r o ≡ putRead form (checked (inCapitals (partsView s q))) o
+      reform-wrong f r h = made-wrong made o dead s e g f r h
 
-  module _ {n i j : ℕ} (e : answer ≡ Printable n i j) where
-    pub printable-parted : Parted (take n after) i j
-    printable-parted = stands-parted (reads-printable g e .stands)
+      pub reform-good : not (v .right) ≡ false → (r : Written) (o₁ : List ℕ)
+          → output r o₁ ≡ put form (headerCapitals (part i j s)) (blocksAt s j) o → output r o₁ ≡ putRead form (checked (inCapitals (partsView s q))) o
+      unfolding putRead
+      reform-good f r o₁ h = made-good made o dead s e g f r o₁ h
 
-    pub printable-frame : inCapitals (read s) ≡ frame (headerCapitals (part i j (take n after))) (blocksAt (take n after) j)
-    unfolding inCapitals
-    printable-frame = ap inCapitals (stands-frame (reads-printable g e .stands))
+  module _ (r : Written) (o₁ : List ℕ) where
+    pub reform-room : (t : List ℕ) → length t ≤ TRANSLATED → (q : Parts) → q ≡ partPlaces true t (readLed (leadOf true t))
+        → output r o₁ ≡ putRead form (checked (inCapitals (partsView t q))) o → output r o₁ ≡ putRead form (checked (inCapitals (readLed (leadOf true t)))) o
+    reform-room t l q e h = made-room made (output r o₁) t l e h
 
--- ---- re-forming
+    module _ (s : List ℕ) (p : isPrintable s ≡ true) {room after : List ℕ} {answer : Translated} (g : Translates s room answer after) where
+      pub reform-translated : {n : ℕ} → answer ≡ Bytes n → output r o₁ ≡ putRead form (checked (inCapitals (readLed (leadOf true (take n after))))) o
+          → output r o₁ ≡ putRead form (checked (inCapitals (read s))) o
+      reform-translated e h = made-translated made (output r o₁) s p g e h
 
-module _ (form : ℕ) (h : List ℕ) (bs : List Block) (o : List ℕ) (t : Bool) (e : t ≡ allRight bs) where
-  pub reform-wrong : not t ≡ true → (r : Written) → r ≡ writtenAs 17 0 → output r o ≡ putRead form (checked (frame h bs)) o
-  unfolding checked putRead
-  reform-wrong f r g = rw (g, ← e, not-true t f)
+  pub reform-untranslated : (s : List ℕ) → isPrintable s ≡ true → {room after : List ℕ} {answer : Translated} → Translates s room answer after
+      → {n : ℕ} → answer ≡ NoBytes n → (r : Written) → r ≡ writtenAs n 0 → output r o ≡ putRead form (checked (inCapitals (read s))) o
+  reform-untranslated s p g e r f = made-untranslated made o dead s p g e r f
 
-  pub reform-good : not t ≡ false → (r : Written) (o₁ : List ℕ) → output r o₁ ≡ put form h bs o → output r o₁ ≡ putRead form (checked (frame h bs)) o
-  unfolding checked putRead
-  reform-good f r o₁ g = g ∙ rw (← e, not-false t f)
+pub ruleset reforming = (parted, reform-none, reform-wrong, reform-good, reform-room, reform-untranslated, reform-translated, needs)
 
 module _ (form : ℕ) (s o : List ℕ) (t : Bool) (e : t ≡ isForm form) where
   pub reform-form : not t ≡ true → (r : Written) → r ≡ writtenAs 15 0 → output r o ≡ reform form s o
   unfolding reform
   reform-form f r g = rw (g, ← e, f)
 
-  module _ (f : not t ≡ false) {room after : List ℕ} {answer : Read} (g : Reads s room answer after) where
-    pub reform-refused : {n : ℕ} → answer ≡ Refused n → (r : Written) → r ≡ writtenAs n 0 → output r o ≡ reform form s o
-    unfolding reform checked putRead inCapitals
-    reform-refused h r i = rw (i, ← e, f, reads-refused g h)
-
-    pub reform-standard : {i j : ℕ} → answer ≡ Standard i j → (r : Written) (o₁ : List ℕ)
-        → output r o₁ ≡ putRead form (checked (frame (headerCapitals (part i j s)) (blocksAt s j))) o → output r o₁ ≡ reform form s o
+  module _ (f : not t ≡ false) (r : Written) (o₁ : List ℕ) where
+    pub reform-read : output r o₁ ≡ putRead form (checked (inCapitals (read s))) o → output r o₁ ≡ reform form s o
     unfolding reform
-    reform-standard h r o₁ k = k ∙ rw (← e, f, standard-frame g h)
+    reform-read g = g ∙ rw (← e, f)
 
-    pub reform-printable : {n i j : ℕ} → answer ≡ Printable n i j → (r : Written) (o₁ : List ℕ)
-        → output r o₁ ≡ putRead form (checked (frame (headerCapitals (part i j (take n after))) (blocksAt (take n after) j))) o → output r o₁ ≡ reform form s o
-    unfolding reform
-    reform-printable h r o₁ k = k ∙ rw (← e, f, printable-frame g h)
+    pub reform-standard : (b : Bool) → b ≡ isPrintable s → b ≡ false → (q : Parts) → q ≡ partPlaces false s (read s)
+        → output r o₁ ≡ putRead form (checked (inCapitals (partsView s q))) o → output r o₁ ≡ reform form s o
+    reform-standard b k l q d g = reform-read (made-standard (made form o) (output r o₁) s (sym k ∙ l) d g)
 
-pub ruleset readings = (standard-parted, printable-parted, reads-within, reads-counts)
-
-pub ruleset reforming = (readings, reform-wrong, reform-good, reform-form, reform-refused, reform-standard, reform-printable, needs)
+pub ruleset reforms = (parted, reform-form, reform-read, reform-standard, needs)

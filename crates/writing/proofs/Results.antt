@@ -1,33 +1,34 @@
--- What the calls put as a whole is the form; its length, its number, and what the output buffer is left with.
-use mathlib.Core.Path.{_≡_, sym, ap, ap₂, _∙_}
-use mathlib.Core.Bool.{true, false}
+-- What the calls put as a whole is the form; its number, its length, and what the output buffer is left with.
+use mathlib.Core.Path.{_≡_, refl, sym, ap, ap₂, _∙_}
+use mathlib.Core.Bool.{Bool, true, false, _||_}
 use mathlib.Core.List.{List, [], _∷_, _++_, append-nil, append-assoc}
-use Prim.Native.Nat.{ℕ, _+_, _*_, _≤_}
-use mir.Syntax.{w64}
-use mir.Val.{Fits}
+use Prim.Native.Nat.{ℕ, _+_, _≤_}
 use native.Mathlib.Nat.{zero-add}
 use native.Mathlib.Omega.{arith}
 use borrow.Author.Needs.{needs}
-use borrow.Author.Tests.{ne-eqb, eqb-true, eqb-false, lt-ltb, le-ltb, ltb-false}
+use borrow.Author.Tests.{eqb-true, ne-eqb, ltb-false}
 use lib.Dec.{lit≤}
-use lib.ListN.{length, drop, length-append, length-take, length-drop}
+use lib.ListN.{length, drop, length-append}
 use lib.Seq.{sets-eq}
-use Rattle.octets.specs.Choice.{_is_, _<?_}
-use Rattle.octets.specs.Buffer.{zeros, overlay}
-use Rattle.octets.specs.Bytes.{EOT, TRANSLATED}
-use Rattle.octets.proofs.Tests.{compare, by-test, never}
+use Rattle.octets.specs.Choice.{_is_, _<?_, all}
+use Rattle.octets.specs.Buffer.{overlay}
+use Rattle.octets.specs.Bytes.{EOT, BLOCKS, TRANSLATED}
+use Rattle.octets.proofs.Tests.{by-test, never}
 use Rattle.header.specs.Capitals.{headerCapitals}
 use Rattle.body.specs.Body.{Block, block, Body, badBody, body, blocks}
+use Rattle.body.specs.Surveying.{textBytes}
 use Rattle.body.specs.Walking.{part, isBody, blocksIn, bodyAt, blocksAt}
+use Rattle.body.proofs.Plain.{Plain}
 use Rattle.body.proofs.Taken.{anything, all-anything, Blocks, BodyOf, blocks-of}
-use Rattle.writing.specs.declared.Written.{Written}
-use Rattle.forms.specs.Forms.{nuls, bodyIn, formOf, render}
-use Rattle.writing.specs.Output.{isOver, output, writtenAs, delivered, putNumber, put}
-use Rattle.forms.specs.Pieces.{Puts, encode, piece, pieces, heading, headed}
-use Rattle.writing.specs.Sources.{SPREAD, Source, Puttable, Parted, Pair}
-use Rattle.writing.specs.Sources.{standardForm, longest, fitNumber}
+use Rattle.forms.specs.Forms.{isItself, formOf, render}
+use Rattle.forms.specs.Lengths.{blockEscapes, renderLength}
+use Rattle.forms.specs.Pieces.{Takes, Puts, encode, piece, pieces, heading, headed}
+use Rattle.forms.proofs.LengthLaws.{form-length, render-length}
 use Rattle.forms.proofs.PieceLaws.{pieces-append, render-headed}
-use Rattle.forms.proofs.Puttings.{puts-as, joined, heading-near}
+use Rattle.forms.proofs.Puttings.{puts-as, joined, takes-front, takes-behind}
+use Rattle.writing.specs.Output.{isOver, output, writtenAs, delivered, putNumber, put}
+use Rattle.writing.specs.Sources.{Headed, Paired, Puttable, escapesIn, fitted, answered}
+use Rattle.writing.specs.declared.Written.{Written}
 
 -- ---- the blocks of a good body
 
@@ -36,128 +37,174 @@ unfolding isBody blocksIn
 good-blocks n badBody e g = never (sym e)
 good-blocks n (body bs) e g = g
 
--- there are 1 to 64
-pub blocks-good : {s : List ℕ} {from : ℕ} → Source s from → Blocks anything 64 (blocksAt s from)
+-- there are 1 to 64, of plain bytes
+pub blocks-good : (s : List ℕ) (from : ℕ) → bodyAt s from ≡ true → Blocks anything 64 (blocksAt s from)
 unfolding bodyAt blocksAt
-blocks-good {s} {from} g =
-    good-blocks 64 (blocks 64 (drop from s)) (g .good) (blocks-of anything 64 (drop from s) (all-anything (drop from s)))
+blocks-good s from g = good-blocks 64 (blocks 64 (drop from s)) g (blocks-of anything 64 (drop from s) (all-anything (drop from s)))
 
 -- ---- the header, and the blocks behind it
 
-module _ {s : List ℕ} {i from : ℕ} (g : Parted s i from) where
-  part-short : length (part i from s) ≤ TRANSLATED
-  part-short = simp (length-take, length-drop) (omega (arith, g .source .short))
-
-  module _ {o o₁ : List ℕ} {a : ℕ} (form : ℕ) (p : Puts o 0 (encode form (heading form (headerCapitals (part i from s)))) o₁ a) where
-    pub headed-ready : Puttable a s from
-    headed-ready = record { source = g .source; near = omega (arith, heading-near form (part i from s) p, part-short) }
-
-    pub headed-near : {n : ℕ} → n ≤ a + SPREAD → n ≤ 2 * SPREAD
-    headed-near h = omega (arith, heading-near form (part i from s) p, part-short)
-
-pub headed-put : {o o₁ o₂ : List ℕ} {a n : ℕ} (form : ℕ) (h : List ℕ) (bs : List Block) → Puts o₁ a (encode form (pieces form true bs)) o₂ n
-    → Puts o 0 (encode form (heading form h)) o₁ a → Puts o 0 (encode form (headed form h bs)) o₂ n
+headed-as : (form : ℕ) (h : List ℕ) (bs : List Block) → headed form h bs ≡ heading form h ++ pieces form true bs
 unfolding headed
-headed-put form h bs q p = joined form (heading form h) (pieces form true bs) p q
+headed-as form h bs = refl
 
-pub ruleset heads = (headed-ready, headed-near, headed-put, needs)
+module _ {o : List ℕ} (form : ℕ) (h : List ℕ) (bs : List Block) where
+  pub headed-front : Takes o 0 (encode form (headed form h bs)) → Takes o 0 (encode form (heading form h))
+  headed-front t = takes-front form (heading form h) (pieces form true bs) (rw (headed-as form h bs) at t)
+
+  module _ {o₁ : List ℕ} {a : ℕ} (p : Puts o 0 (encode form (heading form h)) o₁ a) where
+    headed-behind : Takes o 0 (encode form (headed form h bs)) → Takes o₁ a (encode form (pieces form true bs))
+    headed-behind t = takes-behind form (heading form h) (pieces form true bs) (rw (headed-as form h bs) at t) p
+
+    pub headed-put : {o₂ : List ℕ} {n : ℕ} → Puts o₁ a (encode form (pieces form true bs)) o₂ n → Puts o 0 (encode form (headed form h bs)) o₂ n
+    headed-put q = rw (headed-as form h bs) (joined form (heading form h) (pieces form true bs) p q)
+
+-- its blocks have places behind it
+pub headed-ready : {o o₁ : List ℕ} {a : ℕ} (form : ℕ) {s : List ℕ} {i from count : ℕ} → Headed s i from count
+    → Takes o 0 (encode form (headed form (headerCapitals (part i from s)) (blocksAt s from)))
+    → Puts o 0 (encode form (heading form (headerCapitals (part i from s)))) o₁ a → Puttable o₁ a form true s from count
+headed-ready form {s} {i} {from} g t p =
+    record { good = g .good; counted = g .counted; room = headed-behind form (headerCapitals (part i from s)) (blocksAt s from) p t }
+
+pub ruleset heads = (headed-front, headed-ready, headed-put, needs)
 
 -- ---- a whole form
 
-ended-put : {o o₁ o₂ : List ℕ} {a n : ℕ} (form : ℕ) (h : List ℕ) (bs : List Block) → 1 ≤ length bs → Puts o₁ a (encode form (EOT ∷ [])) o₂ n
-    → Puts o 0 (encode form (headed form h bs)) o₁ a → Puts o 0 (render form h bs) o₂ n
-ended-put form h bs e q p = puts-as (render-headed form h bs e) (joined form (headed form h bs) (EOT ∷ []) p q)
+module _ {o : List ℕ} (form : ℕ) (h : List ℕ) (bs : List Block) (e : 1 ≤ length bs) where
+  ended-front : Takes o 0 (render form h bs) → Takes o 0 (encode form (headed form h bs))
+  ended-front t = takes-front form (headed form h bs) (EOT ∷ []) (rw (render-headed form h bs e) at t)
 
-pub reformed-put : {o o₁ o₂ : List ℕ} {a n : ℕ} {s : List ℕ} {i from : ℕ} → Parted s i from → (form : ℕ) → Puts o₁ a (encode form (EOT ∷ [])) o₂ n
-    → Puts o 0 (encode form (headed form (headerCapitals (part i from s)) (blocksAt s from))) o₁ a
-    → Puts o 0 (render form (headerCapitals (part i from s)) (blocksAt s from)) o₂ n
-reformed-put {s} {i} {from} g form q p = ended-put form (headerCapitals (part i from s)) (blocksAt s from) (blocks-good (g .source) .some) q p
+  module _ {o₁ : List ℕ} {a : ℕ} (p : Puts o 0 (encode form (headed form h bs)) o₁ a) where
+    ended-behind : Takes o 0 (render form h bs) → Takes o₁ a (encode form (EOT ∷ []))
+    ended-behind t = takes-behind form (headed form h bs) (EOT ∷ []) (rw (render-headed form h bs e) at t) p
 
-module _ {s : List ℕ} {i from : ℕ} {t : List ℕ} {place : ℕ} (g : Pair s i from t place) where
-  pub both-put : {o o₁ o₂ : List ℕ} {a n : ℕ} (form : ℕ) → Puts o₁ a (encode form (pieces form false (blocksAt t place))) o₂ n
-      → Puts o 0 (encode form (headed form (headerCapitals (part i from s)) (blocksAt s from))) o₁ a
-      → Puts o 0 (encode form (headed form (headerCapitals (part i from s)) (blocksAt s from ++ blocksAt t place))) o₂ n
+    ended-put : {o₂ : List ℕ} {n : ℕ} → Puts o₁ a (encode form (EOT ∷ [])) o₂ n → Puts o 0 (render form h bs) o₂ n
+    ended-put q = puts-as (render-headed form h bs e) (joined form (headed form h bs) (EOT ∷ []) p q)
+
+-- of one frame
+module _ {s : List ℕ} {i from count : ℕ} (form : ℕ) (g : Headed s i from count) where
+  some : 1 ≤ length (blocksAt s from)
+  some = blocks-good s from (g .good) .some
+
+  pub reformed-front : {o : List ℕ} → Takes o 0 (render form (headerCapitals (part i from s)) (blocksAt s from))
+      → Takes o 0 (encode form (headed form (headerCapitals (part i from s)) (blocksAt s from)))
+  reformed-front t = ended-front form (headerCapitals (part i from s)) (blocksAt s from) some t
+
+  module _ {o o₁ : List ℕ} {a : ℕ} (p : Puts o 0 (encode form (headed form (headerCapitals (part i from s)) (blocksAt s from))) o₁ a) where
+    pub reformed-behind : Takes o 0 (render form (headerCapitals (part i from s)) (blocksAt s from)) → Takes o₁ a (encode form (EOT ∷ []))
+    reformed-behind t = ended-behind form (headerCapitals (part i from s)) (blocksAt s from) some p t
+
+    pub reformed-put : {o₂ : List ℕ} {n : ℕ} → Puts o₁ a (encode form (EOT ∷ [])) o₂ n
+        → Puts o 0 (render form (headerCapitals (part i from s)) (blocksAt s from)) o₂ n
+    reformed-put q = ended-put form (headerCapitals (part i from s)) (blocksAt s from) some p q
+
+pub ruleset wholes = (reformed-front, reformed-behind, reformed-put, needs)
+
+-- of two
+pub both-headed : {s : List ℕ} {i from count : ℕ} {t : List ℕ} {place more : ℕ} → Paired s i from count t place more → Headed s i from count
+both-headed g = g .first
+
+module _ {s : List ℕ} {i from count : ℕ} {t : List ℕ} {place more : ℕ} (form : ℕ) (g : Paired s i from count t place more) where
+  first-some : 1 ≤ length (blocksAt s from)
+  first-some = blocks-good s from (g .first .good) .some
+
+  both-some : 1 ≤ length (blocksAt s from ++ blocksAt t place)
+  both-some = rw length-append (omega (arith, first-some))
+
+  both-as : headed form (headerCapitals (part i from s)) (blocksAt s from ++ blocksAt t place)
+      ≡ headed form (headerCapitals (part i from s)) (blocksAt s from) ++ pieces form false (blocksAt t place)
   unfolding headed
-  both-put form q p =
+  both-as =
       let h : List ℕ = headerCapitals (part i from s) in
-      let bs : List Block = blocksAt s from in
-      let cs : List Block = blocksAt t place in
-      let e : headed form h (bs ++ cs) ≡ headed form h bs ++ pieces form false cs =
-      ap (λ (l : List ℕ). heading form h ++ l) (pieces-append form true bs cs (blocks-good (g .first .source) .some))
-      ∙ sym (append-assoc (heading form h) (pieces form true bs) (pieces form false cs)) in
-      rw e (joined form (headed form h bs) (pieces form false cs) p q)
+      ap (λ (l : List ℕ). heading form h ++ l) (pieces-append form true (blocksAt s from) (blocksAt t place) first-some)
+      ∙ sym (append-assoc (heading form h) (pieces form true (blocksAt s from)) (pieces form false (blocksAt t place)))
 
-  pub joined-put : {o o₁ o₂ : List ℕ} {a n : ℕ} (form : ℕ) → Puts o₁ a (encode form (EOT ∷ [])) o₂ n
-      → Puts o 0 (encode form (headed form (headerCapitals (part i from s)) (blocksAt s from ++ blocksAt t place))) o₁ a
-      → Puts o 0 (render form (headerCapitals (part i from s)) (blocksAt s from ++ blocksAt t place)) o₂ n
-  joined-put form q p =
-      ended-put form (headerCapitals (part i from s)) (blocksAt s from ++ blocksAt t place)
-      (rw length-append (omega (arith, blocks-good (g .first .source) .some))) q p
+  pub both-front : {o : List ℕ} → Takes o 0 (encode form (headed form (headerCapitals (part i from s)) (blocksAt s from ++ blocksAt t place)))
+      → Takes o 0 (encode form (headed form (headerCapitals (part i from s)) (blocksAt s from)))
+  both-front w = takes-front form (headed form (headerCapitals (part i from s)) (blocksAt s from)) (pieces form false (blocksAt t place)) (rw both-as at w)
 
-  -- the second's blocks stand behind the first's
-  pub joined-ready : (a : ℕ) → a ≤ 2 * SPREAD → Puttable a t place
-  joined-ready a h = record { source = g .second; near = omega arith }
+  module _ {o o₁ : List ℕ} {a : ℕ} (p : Puts o 0 (encode form (headed form (headerCapitals (part i from s)) (blocksAt s from))) o₁ a) where
+    pub both-ready : Takes o 0 (encode form (headed form (headerCapitals (part i from s)) (blocksAt s from ++ blocksAt t place)))
+        → Puttable o₁ a form false t place more
+    both-ready w =
+        record {
+          good = g .good;
+          counted = g .counted;
+          room = takes-behind form (headed form (headerCapitals (part i from s)) (blocksAt s from)) (pieces form false (blocksAt t place)) (rw both-as at w) p;
+        }
 
-  pub joined-first : bodyAt s from ≡ true
-  joined-first = g .first .source .good
+    pub both-put : {o₂ : List ℕ} {n : ℕ} → Puts o₁ a (encode form (pieces form false (blocksAt t place))) o₂ n
+        → Puts o 0 (encode form (headed form (headerCapitals (part i from s)) (blocksAt s from ++ blocksAt t place))) o₂ n
+    both-put q = rw both-as (joined form (headed form (headerCapitals (part i from s)) (blocksAt s from)) (pieces form false (blocksAt t place)) p q)
 
-  pub joined-second : bodyAt t place ≡ true
-  joined-second = g .second .good
+  pub joined-front : {o : List ℕ} → Takes o 0 (render form (headerCapitals (part i from s)) (blocksAt s from ++ blocksAt t place))
+      → Takes o 0 (encode form (headed form (headerCapitals (part i from s)) (blocksAt s from ++ blocksAt t place)))
+  joined-front w = ended-front form (headerCapitals (part i from s)) (blocksAt s from ++ blocksAt t place) both-some w
 
-  pub joined-fits : (x y : ℕ) → x ≡ length (blocksAt s from) → y ≡ length (blocksAt t place) → Fits w64 (x + y)
-  joined-fits x y p q = record { fits = omega (arith, blocks-good (g .first .source) .few, blocks-good (g .second) .few) }
+  module _ {o o₁ : List ℕ} {a : ℕ} (p : Puts o 0 (encode form (headed form (headerCapitals (part i from s)) (blocksAt s from ++ blocksAt t place))) o₁ a) where
+    pub joined-behind : Takes o 0 (render form (headerCapitals (part i from s)) (blocksAt s from ++ blocksAt t place)) → Takes o₁ a (encode form (EOT ∷ []))
+    joined-behind w = ended-behind form (headerCapitals (part i from s)) (blocksAt s from ++ blocksAt t place) both-some p w
 
-pub joined-length : (bs cs : List Block) (x y : ℕ) → x ≡ length bs → y ≡ length cs → x + y ≡ length (bs ++ cs)
-joined-length bs cs x y p q = rw (p, q, length-append)
+    pub joined-put : {o₂ : List ℕ} {n : ℕ} → Puts o₁ a (encode form (EOT ∷ [])) o₂ n
+        → Puts o 0 (render form (headerCapitals (part i from s)) (blocksAt s from ++ blocksAt t place)) o₂ n
+    joined-put q = ended-put form (headerCapitals (part i from s)) (blocksAt s from ++ blocksAt t place) both-some p q
 
-pub written-put : {o o₁ o₂ o₃ : List ℕ} {a b n : ℕ} (form : ℕ) (h : List ℕ) (c : ℕ) (d : List ℕ) → Puts o₂ b (encode form (EOT ∷ [])) o₃ n
-    → Puts o₁ a (encode form (piece form true c d)) o₂ b → Puts o 0 (encode form (heading form h)) o₁ a
-    → Puts o 0 (render form h (block c d true ∷ [])) o₃ n
-unfolding headed pieces
-written-put form h c d r q p =
-    ended-put form h (block c d true ∷ []) (lit≤ tt) r
-    (rw (append-nil (piece form true c d)) (joined form (heading form h) (piece form true c d) p q))
+pub ruleset pairs = (both-front, both-headed, both-ready, both-put, joined-front, joined-behind, joined-put, needs)
 
--- what was put tells its length
-pub puts-length : {o o₁ : List ℕ} {n : ℕ} {x : List ℕ} → Puts o 0 x o₁ n → n ≡ length x
-puts-length p = omega (arith, p .moved)
+-- of one command
+module _ (form : ℕ) (h : List ℕ) (c : ℕ) (d : List ℕ) where
+  single-as : headed form h (block c d true ∷ []) ≡ heading form h ++ piece form true c d
+  unfolding headed pieces
+  single-as = rw (append-nil (piece form true c d))
 
-pub ruleset wholes = (reformed-put, both-put, joined-put, joined-ready, joined-first, joined-second, joined-fits, joined-length, written-put, puts-length, needs)
+  module _ {o : List ℕ} where
+    pub single-heading : Takes o 0 (encode form (headed form h (block c d true ∷ []))) → Takes o 0 (encode form (heading form h))
+    single-heading t = takes-front form (heading form h) (piece form true c d) (rw single-as at t)
 
--- ---- its number
+    module _ {o₁ : List ℕ} {a : ℕ} (p : Puts o 0 (encode form (heading form h)) o₁ a) where
+      pub single-piece : Takes o 0 (encode form (headed form h (block c d true ∷ []))) → Takes o₁ a (encode form (piece form true c d))
+      single-piece t = takes-behind form (heading form h) (piece form true c d) (rw single-as at t) p
 
--- bytes put at the start of a buffer that has room for them
-put-whole : (o o₁ : List ℕ) (k : ℕ) (x : List ℕ) → length x ≤ length o → Puts o 0 x o₁ k → output (writtenAs 0 k) o₁ ≡ delivered x o
-unfolding overlay
-put-whole o o₁ k x h p =
-    let z : 0 + length x ≤ length o = omega arith in
-    let e : o₁ ≡ x ++ drop (length x) o = p .stored ∙ sets-eq x o 0 z ∙ ap (λ (j : ℕ). x ++ drop j o) (zero-add (length x)) in
-    ap₂ (λ (j : ℕ) (l : List ℕ). output (writtenAs 0 j) l) (puts-length p) e
+      pub single-put : {o₂ : List ℕ} {n : ℕ} → Puts o₁ a (encode form (piece form true c d)) o₂ n
+          → Puts o 0 (encode form (headed form h (block c d true ∷ []))) o₂ n
+      single-put q = rw single-as (joined form (heading form h) (piece form true c d) p q)
 
-shifted : (n : ℕ) → (8197 <? (5 + n)) ≡ (TRANSLATED <? n)
-shifted n = compare TRANSLATED n (λ a. lt-ltb 8197 (5 + n) (omega arith) ∙ sym (lt-ltb TRANSLATED n a)) (λ a. le-ltb 8197 (5 + n) (omega arith) ∙ sym (le-ltb TRANSLATED n a))
+    pub written-front : Takes o 0 (render form h (block c d true ∷ [])) → Takes o 0 (encode form (headed form h (block c d true ∷ [])))
+    written-front t = ended-front form h (block c d true ∷ []) (lit≤ tt) t
+
+    module _ {o₁ : List ℕ} {a : ℕ} (p : Puts o 0 (encode form (headed form h (block c d true ∷ []))) o₁ a) where
+      pub written-behind : Takes o 0 (render form h (block c d true ∷ [])) → Takes o₁ a (encode form (EOT ∷ []))
+      written-behind t = ended-behind form h (block c d true ∷ []) (lit≤ tt) p t
+
+      pub written-put : {o₂ : List ℕ} {n : ℕ} → Puts o₁ a (encode form (EOT ∷ [])) o₂ n → Puts o 0 (render form h (block c d true ∷ [])) o₂ n
+      written-put q = ended-put form h (block c d true ∷ []) (lit≤ tt) p q
+
+pub ruleset written = (single-heading, single-piece, single-put, written-front, written-behind, written-put, needs)
+
+-- ---- its number and its length
 
 module _ (form : ℕ) (h : List ℕ) (bs : List Block) where
-  -- the standard form and what a printable one stands for
-  full-printable : form ≡ 3 → length (render 2 h bs) ≡ 5 + length (formOf form h bs)
-  unfolding render formOf nuls bodyIn zeros
-  full-printable t = rw t (omega arith)
+  -- what is reckoned is what the definitions say
+  raw-length : 1 ≤ length bs → all isItself h ≡ true → Plain bs
+      → renderLength form (length (formOf form h bs)) (length bs) (escapesIn form bs) ≡ length (render form h bs)
+  raw-length s a p = counts ∙ sym (render-length form h bs s a p)
+    where
+      counts : renderLength form (length (formOf form h bs)) (length bs) (escapesIn form bs)
+          ≡ renderLength form (length (formOf form h bs)) (length bs) (blockEscapes bs)
+      counts = unfold renderLength escapesIn in by-test (form is 3) (λ e. rw e) (λ e. rw e)
 
-  full-other : (form ≡ 3 → ⊥) → length (render form h bs) ≡ length (formOf form h bs)
-  unfolding render
-  full-other t = rw (ne-eqb form 3 t)
+  fitted-as : 1 ≤ length bs → all isItself h ≡ true → Plain bs → (room : ℕ)
+      → fitted form (length h) (length bs) (textBytes bs) (escapesIn form bs) room ≡ answered form h bs room
+  unfolding fitted answered putNumber isOver
+  fitted-as s a p room =
+      rw (← form-length form h bs s, raw-length s a p)
+      (by-test (BLOCKS <? length bs || TRANSLATED <? length (formOf form h bs)) (λ e. rw e)
+      (λ e. by-test (room <? length (render form h bs)) (λ f. rw (e, f)) (λ f. rw (e, f))))
 
-  long-same : (longest form <? length (render (standardForm form) h bs)) ≡ (TRANSLATED <? length (formOf form h bs))
-  unfolding longest standardForm
-  long-same =
-      by-test (form is 3)
-      (λ e. rw (e, full-printable (eqb-true form 3 e)) (shifted (length (formOf form h bs))))
-      (λ e. rw (e, full-other (eqb-false form 3 e)))
-
-  pub number-of : {count full raw k v : ℕ} (room : ℕ) → v ≡ fitNumber form count full raw room → count ≡ length bs → full ≡ length (render k h bs)
-      → k ≡ standardForm form → raw ≡ length (render form h bs) → v ≡ putNumber form h bs room
-  unfolding fitNumber putNumber isOver
-  number-of room e p q s r = e ∙ rw (p, q, s, r, long-same)
+  pub fitted-by : 1 ≤ length bs → all isItself h ≡ true → Plain bs
+      → (k n t e : ℕ) → k ≡ length h → n ≡ length bs → t ≡ textBytes bs → e ≡ escapesIn form bs
+      → (room : ℕ) (r : Written) → r ≡ fitted form k n t e room → r ≡ answered form h bs room
+  fitted-by s a p k n t e b c d f room r q = q ∙ rw (b, c, d, f) (fitted-as s a p room)
 
   -- what is not refused is within the limits, and has room
   pub put-fits : (room : ℕ) → putNumber form h bs room ≡ 0 → (isOver form h bs ≡ false) × (length (render form h bs) ≤ room)
@@ -168,13 +215,30 @@ module _ (form : ℕ) (h : List ℕ) (bs : List Block) where
       (a, ltb-false room (length (render form h bs)) b)))
 
   -- with room for it the form starts the buffer; else the buffer is as it was
-  module _ (o : List ℕ) (n : ℕ) (e : n ≡ putNumber form h bs (length o)) where
-    pub put-refused : (n ≡ 0 → ⊥) → (r : Written) → r ≡ writtenAs n 0 → output r o ≡ put form h bs o
-    unfolding put
-    put-refused t r f = rw (← e, ne-eqb n 0 t, f)
+  module _ (o : List ℕ) (r : Written) (e : r ≡ answered form h bs (length o)) where
+    number : r .number ≡ putNumber form h bs (length o)
+    unfolding answered
+    number = ap (λ x. x .number) e ∙ by-test (putNumber form h bs (length o) is 0)
+        (λ a. rw a (sym (eqb-true (putNumber form h bs (length o)) 0 a))) (λ a. rw a)
 
-    pub put-done : n ≡ 0 → (o₁ : List ℕ) (k : ℕ) → Puts o 0 (render form h bs) o₁ k → output (writtenAs 0 k) o₁ ≡ put form h bs o
-    unfolding put
-    put-done t o₁ k p = rw (sym e ∙ t) (put-whole o o₁ k (render form h bs) (put-fits (length o) (sym e ∙ t) .1) p)
+    pub put-refused : (r .number ≡ 0 → ⊥) → output r o ≡ put form h bs o
+    unfolding answered put
+    put-refused n = let z = ne-eqb (putNumber form h bs (length o)) 0 (λ d. n (number ∙ d)) in rw (e, z)
 
-pub ruleset delivering = (number-of, put-refused, put-done, needs)
+    module _ (t : r .number ≡ 0) where
+      fits : length (render form h bs) ≤ length o
+      fits = put-fits (length o) (sym number ∙ t) .1
+
+      pub put-room : Takes o 0 (render form h bs)
+      put-room = record { room = omega (arith, fits) }
+
+      pub put-done : (o₁ : List ℕ) (k : ℕ) → Puts o 0 (render form h bs) o₁ k → output (writtenAs 0 k) o₁ ≡ put form h bs o
+      unfolding put overlay
+      put-done o₁ k p =
+          let x : List ℕ = render form h bs in
+          let n : k ≡ length x = omega (arith, p .moved) in
+          let z : 0 + length x ≤ length o = omega (arith, fits) in
+          let w : o₁ ≡ x ++ drop (length x) o = p .stored ∙ sets-eq x o 0 z ∙ ap (λ (j : ℕ). x ++ drop j o) (zero-add (length x)) in
+          rw (sym number ∙ t) (ap₂ (λ (j : ℕ) (l : List ℕ). output (writtenAs 0 j) l) n w)
+
+pub ruleset delivering = (put-refused, put-room, put-done, needs)

@@ -1,76 +1,107 @@
 -- Writing a one-command frame, number by number.
-use mathlib.Core.Path.{_≡_, refl, sym, _∙_}
+use mathlib.Core.Path.{_≡_, refl, sym, ap, _∙_}
 use mathlib.Core.Bool.{Bool, true, false, not, _&&_}
 use mathlib.Core.List.{List, [], _∷_}
 use Prim.Native.Nat.{ℕ, _+_, _<_, _≤_}
 use native.Mathlib.Omega.{arith}
 use borrow.Author.Needs.{needs}
-use borrow.Author.Tests.{eq-eqb, ne-eqb, lt-ltb, not-false}
-use lib.ListN.{length, drop, length-append}
-use Rattle.octets.specs.Choice.{if_then_else_, _is_, front, all}
-use Rattle.octets.specs.Bytes.{TRANSLATED, isPlain}
-use Rattle.octets.proofs.Tests.{choice, compare, by-test, never, and-left, and-right}
+use borrow.Author.Tests.{lt-ltb, not-false}
+use lib.Dec.{lit≤}
+use lib.ListN.{length}
+use Rattle.octets.specs.Choice.{if_then_else_, _is_, all}
+use Rattle.octets.specs.Bytes.{ETX, TRANSLATED, isPlain}
+use Rattle.octets.specs.Counts.{count}
+use Rattle.octets.proofs.Counts.{count-few}
+use Rattle.octets.proofs.Tests.{choice, by-test}
 use Rattle.octets.proofs.Scans.{plain, not-plain}
 use Rattle.header.specs.Header.{isHeader}
-use Rattle.header.proofs.Texts.{header-length}
 use Rattle.header.specs.Capitals.{headerCapitals}
-use Rattle.body.specs.Body.{block}
+use Rattle.header.proofs.InCapitals.{header-long}
+use Rattle.header.proofs.Texts.{header-length}
+use Rattle.body.specs.Sum.{checksum}
+use Rattle.body.specs.Body.{Block, block}
+use Rattle.body.specs.Surveying.{textBytes}
+use Rattle.body.specs.Walking.{opening, stretched}
+use Rattle.body.specs.declared.sum.Stretch.{Stretch}
+use Rattle.body.proofs.Plain.{Plain}
+use Rattle.body.proofs.Sums.{sum-stretch}
+use Rattle.forms.specs.Forms.{formOf}
+use Rattle.forms.specs.Lengths.{isEscaped, escapes, blockEscapes, formLength}
+use Rattle.forms.proofs.LengthLaws.{form-length, header-itself}
 use Rattle.writing.specs.declared.Written.{Written}
-use Rattle.forms.specs.Forms.{plainRest, plainBody, summedBody, bodyIn, formOf}
 use Rattle.writing.specs.Output.{isForm, isOver, output, writtenAs, unwritten, putNumber, put}
 use Rattle.writing.specs.Writing.{write}
-use Rattle.writing.specs.Sources.{Short}
-use Rattle.writing.proofs.Results.{wholes, delivering}
+use Rattle.writing.specs.Sources.{Writable, Reckoned, escapesIn, fitted, answered}
+use Rattle.writing.proofs.Reckonings.{escapes-other}
+use Rattle.writing.proofs.Results.{fitted-by}
 
--- ---- plain bytes
+-- ---- the escapes of the block
 
-module _ (p : ℕ → Bool) where
-  front-full : (d : List ℕ) → all p d ≡ true → length (front p d) ≡ length d
-  unfolding front all
-  front-full [] e = refl
-  front-full (x ∷ d) e = rw (and-left (p x) (all p d) e) (omega (arith, front-full d (and-right (p x) (all p d) e)))
+module _ (c : ℕ) (d : List ℕ) where
+  single-escapes : escapes (c ∷ []) + escapes d ≡ blockEscapes (block c d true ∷ [])
+  unfolding blockEscapes count
+  single-escapes = by-test (isEscaped c) (λ e. rw e (omega arith)) (λ e. rw e (omega arith))
 
-  full-all : (d : List ℕ) → length (front p d) ≡ length d → all p d ≡ true
-  unfolding front all
-  full-all [] e = refl
-  full-all (x ∷ d) e = by-test (p x) (λ t. rw t (full-all d (omega (arith, rw t at e)))) (λ t. absurd (omega (arith, rw t at e)))
+  pub written-escapes : (form : ℕ) → form ≡ 3 → (a b : ℕ) → a ≡ escapes (c ∷ []) → b ≡ escapes d → a + b ≡ escapesIn form (block c d true ∷ [])
+  unfolding escapesIn
+  written-escapes form t a b e f = rw (t, e, f) single-escapes
 
-  all-front : (d : List ℕ) → (length (front p d) is length d) ≡ all p d
-  all-front d =
-      by-test (all p d) (λ e. eq-eqb (length (front p d)) (length d) (front-full d e) ∙ sym e)
-      (λ e. ne-eqb (length (front p d)) (length d) (λ q. never (sym (full-all d q) ∙ e)) ∙ sym e)
+  pub escapes-few-of : length d ≤ TRANSLATED → (a b : ℕ) → a ≡ escapes (c ∷ []) → b ≡ escapes d → a + b ≤ 8193
+  escapes-few-of h a b e f = omega (arith, count-few isEscaped (c ∷ []), count-few isEscaped d)
 
-pub plain-all : (d : List ℕ) (n : ℕ) → n ≡ 0 + length (front isPlain (drop 0 d)) → (n is length d) ≡ all isPlain d
-plain-all d n e = let z : n ≡ length (front isPlain d) = omega arith in rw z (all-front isPlain d)
+pub ruleset escaped = (escapes-other, written-escapes, escapes-few-of, needs)
 
--- ---- lengths
+-- ---- numbers and lengths
 
-body-long : (form c : ℕ) (d : List ℕ) → length d ≤ length (bodyIn form (block c d true ∷ []))
-unfolding bodyIn plainBody plainRest summedBody
-body-long form c d =
-    choice (λ (l : List ℕ). length d ≤ length l) (form is 1) (λ e. simp length-append (omega arith)) (λ e. simp length-append (omega arith))
+-- a form stands for all of the data
+form-bytes : (form h n t : ℕ) → t ≤ formLength form h n t
+unfolding formLength
+form-bytes form h n t =
+    choice (λ m. t ≤ m) (form is 1) (λ e. omega arith) (λ e. choice (λ m. t ≤ m) (form is 3) (λ f. omega arith) (λ f. omega arith))
 
--- long data make a long form
-form-long : (form : ℕ) (h : List ℕ) (c : ℕ) (d : List ℕ) → length d ≤ length (formOf form h (block c d true ∷ []))
-unfolding formOf
-form-long form h c d = simp length-append (omega (arith, body-long form c d))
+module _ (form : ℕ) (h : List ℕ) (c : ℕ) (d : List ℕ) (g : Writable h c d) where
+  single-bytes : textBytes (block c d true ∷ []) ≡ length d
+  unfolding textBytes
+  single-bytes = omega arith
 
-module _ (form : ℕ) (h : List ℕ) (c : ℕ) (d : List ℕ) (room : ℕ) where
-  pub written-long : TRANSLATED < length d → 18 ≡ putNumber form h (block c d true ∷ []) room
-  unfolding putNumber isOver
-  written-long t = let x = length (formOf form h (block c d true ∷ [])) in rw (lt-ltb TRANSLATED x (omega (arith, form-long form h c d)))
+  single-plain : Plain (block c d true ∷ [])
+  single-plain = (record { leading = g .command; following = g .text }, tt)
 
-  -- what has a number 0 is short
-  pub written-short : (g : List ℕ) → length g ≤ TRANSLATED → (n : ℕ) → n ≡ putNumber form h (block c d true ∷ []) room → n ≡ 0 → Short g d
-  written-short g s n e z =
-      record { header = s; text = compare TRANSLATED (length d) (λ t. absurd (omega (arith, written-long t))) (λ t. t) }
+  -- long data make a long form
+  pub written-long : TRANSLATED < length d → (room : ℕ) (r : Written) → r ≡ writtenAs 18 0
+      → r ≡ answered form (headerCapitals h) (block c d true ∷ []) room
+  unfolding answered putNumber isOver
+  written-long t room r q =
+      let x = length (formOf form (headerCapitals h) (block c d true ∷ [])) in
+      let k = form-length form (headerCapitals h) (block c d true ∷ []) (lit≤ tt) in
+      let l = form-bytes form (length (headerCapitals h)) 1 (textBytes (block c d true ∷ [])) in
+      rw (q, lt-ltb TRANSLATED x (omega (arith, k, l, single-bytes)))
 
-pub ruleset writable = (written-long, written-short, wholes, delivering)
+  module _ (t : length d ≤ TRANSLATED) (e : ℕ) (f : e ≡ escapesIn form (block c d true ∷ [])) where
+    escapes-in : escapesIn form (block c d true ∷ []) ≤ 8193
+    unfolding escapesIn
+    escapes-in =
+        choice (λ n. n ≤ 8193) (form is 3) (λ z. omega (arith, single-escapes c d, count-few isEscaped (c ∷ []), count-few isEscaped d)) (λ z. omega arith)
+
+    pub written-reckoned : Reckoned (length h) 1 (length d) e
+    written-reckoned =
+        let w = header-length h (g .header) in
+        record {
+          header = omega (arith, w .few, w .long);
+          count = lit≤ tt;
+          text = omega arith;
+          escapes = omega (arith, escapes-in);
+        }
+
+    pub written-fitted : (room : ℕ) (r : Written) → r ≡ fitted form (length h) 1 (length d) e room
+        → r ≡ answered form (headerCapitals h) (block c d true ∷ []) room
+    written-fitted room r q =
+        fitted-by form (headerCapitals h) (block c d true ∷ []) (lit≤ tt) (header-itself h (g .header)) single-plain
+        (length h) 1 (length d) e (sym (header-long h)) refl (sym single-bytes) f room r q
+
+pub ruleset fitting = (written-long, written-reckoned, written-fitted, needs)
 
 -- ---- writing
-
-pub header-short : (h : List ℕ) (t : Bool) → t ≡ isHeader h → not t ≡ false → length h ≤ TRANSLATED
-header-short h t e f = let w = header-length h (sym e ∙ not-false t f) in omega (arith, w .few, w .long)
 
 module _ (form : ℕ) (h : List ℕ) (c : ℕ) (d o : List ℕ) (t : Bool) (e : t ≡ isForm form) where
   pub write-form : not t ≡ true → (r : Written) → r ≡ writtenAs 15 0 → output r o ≡ write form h c d o
@@ -90,11 +121,19 @@ module _ (form : ℕ) (h : List ℕ) (c : ℕ) (d o : List ℕ) (t : Bool) (e : 
       pub write-command : c < 5 → (r : Written) → r ≡ writtenAs 16 0 → output r o ≡ write form h c d o
       write-command k r j = rw (j, write-at, not-plain c k)
 
-      module _ (k : 5 ≤ c) (v : Bool) (m : v ≡ all isPlain d) where
-        pub write-data : not v ≡ true → (r : Written) → r ≡ writtenAs 16 0 → output r o ≡ write form h c d o
-        write-data l r j = rw (j, write-at, plain c k, ← m, l)
+      -- the data, tested and added up
+      module _ (k : 5 ≤ c) (a : ℕ) (v : Stretch) (m : v ≡ stretched a d) where
+        tested : v .plain ≡ all isPlain d
+        tested = ap (λ x. x .plain) m
 
-        pub write-good : not v ≡ false → (r : Written) (o₁ : List ℕ) → output r o₁ ≡ put form (headerCapitals h) (block c d true ∷ []) o → output r o₁ ≡ write form h c d o
-        write-good l r o₁ j = j ∙ rw (write-at, plain c k, ← m, l)
+        pub write-data : not (v .plain) ≡ true → (r : Written) → r ≡ writtenAs 16 0 → output r o ≡ write form h c d o
+        write-data l r j = rw (j, write-at, plain c k, ← tested, l)
 
-pub ruleset writing = (plain-all, header-short, write-form, write-header, write-command, write-data, write-good, needs)
+        module _ (l : not (v .plain) ≡ false) where
+          pub write-writable : Writable h c d
+          write-writable = record { header = sym g ∙ not-false u i; command = plain c k; text = sym tested ∙ not-false (v .plain) l }
+
+          pub write-good : (r : Written) (o₁ : List ℕ) → output r o₁ ≡ put form (headerCapitals h) (block c d true ∷ []) o → output r o₁ ≡ write form h c d o
+          write-good r o₁ j = j ∙ rw (write-at, plain c k, ← tested, l)
+
+pub ruleset writing = (sum-stretch, write-form, write-header, write-command, write-data, write-writable, write-good, needs)

@@ -1,17 +1,12 @@
 -- Putting a frame into another form.
 use Prim.Native.Nat.{ℕ}
-use mathlib.Core.Bool.{Bool, true, not, _&&_}
-use mathlib.Core.List.{List, [], _∷_}
+use mathlib.Core.Bool.{not}
+use mathlib.Core.List.{List}
 use Rattle.octets.specs.Choice.{if_then_else_}
-use Rattle.body.specs.Body.{Block}
+use Rattle.body.specs.Body.{allRight}
 use Rattle.reading.specs.Reading.{Reading, refused, frame, read}
 use Rattle.reading.specs.Capitals.{inCapitals}
 use Rattle.writing.specs.Output.{Output, isForm, unwritten, put}
-
--- no block's sum is wrong
-unfoldable pub allRight : List Block → Bool
-allRight [] = true
-allRight (b ∷ bs) = b .right && allRight bs
 
 -- 17 "input has a wrong checksum"
 unfoldable pub checked : Reading → Reading

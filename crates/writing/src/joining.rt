@@ -1,38 +1,45 @@
 // "Joining puts the second frame's blocks after the first's under the common header."
 // "Joining: 15, the first input's 3 to 8 and 17, the second's, 12, 13, 18, 14."
 use crate::Written;
-use crate::blocks::all_right;
-use crate::blocks::count_blocks;
-use crate::blocks::has_read;
+use crate::blocks::escapes_from;
 use crate::blocks::put_blocks;
 use crate::blocks::put_headed;
 use crate::numbers::FIRST_HAS_READ;
 use crate::numbers::HEADERS_DIFFER;
 use crate::numbers::WRONG_FORM;
 use crate::numbers::WRONG_SUM;
-use crate::output::fit_number;
+use crate::output::fit;
 use crate::output::is_form;
-use crate::output::standard_form;
 use crate::output::unwritten;
+use body::judging::Survey;
 use forms::put_eot;
 use header::capitals::same_capitals;
-use reading::Read;
-use reading::reading::read;
+use reading::reading::Parts;
+use reading::reading::Translated;
+use reading::reading::is_printable;
+use reading::reading::read_parts;
+use reading::reading::read_standard;
+use reading::reading::translate;
 ghost use mathlib.Core.Path.{_≡_};
+ghost use mathlib.Core.Bool.{true};
 ghost use mathlib.Core.List.{_++_};
-ghost use Prim.Native.Nat.{_*_, _≤_};
+ghost use Prim.Native.Nat.{_≤_};
 ghost use lib.ListN.{length};
 ghost use Rattle.octets.specs.Choice.{same};
+ghost use Rattle.octets.specs.Bytes.{TRANSLATED};
 ghost use Rattle.header.specs.Capitals.{headerCapitals};
 ghost use Rattle.body.specs.Walking.{part, blocksAt};
-ghost use Rattle.reading.specs.Reading.{frame, read};
+ghost use Rattle.reading.specs.Lead.{leadOf};
+ghost use Rattle.reading.specs.Reading.{frame, readLed, read};
 ghost use Rattle.reading.specs.Capitals.{inCapitals};
+ghost use Rattle.reading.specs.Places.{isPrintable};
+ghost use Rattle.reading.specs.Walking.{partsView};
 ghost use Rattle.forms.specs.Forms.{render};
-ghost use Rattle.writing.specs.Output.{output, putNumber, put};
+ghost use Rattle.forms.specs.Pieces.{Takes, Puts, encode, headed};
+ghost use Rattle.writing.specs.Output.{output, put};
 ghost use Rattle.writing.specs.Reforming.{checked};
 ghost use Rattle.writing.specs.Joining.{putJoined, join};
-ghost use Rattle.forms.specs.Pieces.{Puts, encode, headed};
-ghost use Rattle.writing.specs.Sources.{SPREAD, Parted, Pair};
+ghost use Rattle.writing.specs.Sources.{Source, Parted, PartsOf, Paired, answered};
 
 // The first frame's header, its blocks and then the second's, in a form.
 fn put_both(
@@ -41,15 +48,17 @@ fn put_both(
     s: &[u8],
     header: usize,
     from: usize,
+    count: usize,
     t: &[u8],
     place: usize,
+    more: usize,
 ) -> usize
-    requires { ⌜ Pair (now s) header from (now t) place ⌝ }
+    requires { ⌜ Paired (now s) header from count (now t) place more ⌝ }
+    requires { ⌜ Takes (now out) 0 (encode form (headed form (headerCapitals (part header from (now s))) (blocksAt (now s) from ++ blocksAt (now t) place))) ⌝ }
     ensures { λ r. ⌜ Puts (now (out .entry)) 0 (encode form (headed form (headerCapitals (part header from (now (s .entry)))) (blocksAt (now (s .entry)) from ++ blocksAt (now (t .entry)) place))) (now (out .exit)) r ⌝ }
-    ensures { λ r. ⌜ r ≤ 3 * SPREAD ⌝ }
 {
-    let next = put_headed(out, form, s, header, from);
-    put_blocks(out, next, form, false, t, place)
+    let next = put_headed(out, form, s, header, from, count);
+    put_blocks(out, next, form, false, t, place, more)
 }
 
 // The whole joined frame.
@@ -59,50 +68,39 @@ fn put_joined(
     s: &[u8],
     header: usize,
     from: usize,
+    count: usize,
     t: &[u8],
     place: usize,
+    more: usize,
 ) -> usize
-    requires { ⌜ Pair (now s) header from (now t) place ⌝ }
+    requires { ⌜ Paired (now s) header from count (now t) place more ⌝ }
+    requires { ⌜ Takes (now out) 0 (render form (headerCapitals (part header from (now s))) (blocksAt (now s) from ++ blocksAt (now t) place)) ⌝ }
     ensures { λ r. ⌜ Puts (now (out .entry)) 0 (render form (headerCapitals (part header from (now (s .entry)))) (blocksAt (now (s .entry)) from ++ blocksAt (now (t .entry)) place)) (now (out .exit)) r ⌝ }
 {
-    let next = put_both(out, form, s, header, from, t, place);
+    let next = put_both(out, form, s, header, from, count, t, place, more);
     put_eot(out, next, form)
 }
 
-// How long it is: counted by a run that puts nothing of use.
-fn joined_length(form: u8, s: &[u8], header: usize, from: usize, t: &[u8], place: usize) -> usize
-    requires { ⌜ Pair (now s) header from (now t) place ⌝ }
-    ensures { λ r. ⌜ r ≡ length (render form (headerCapitals (part header from (now (s .entry)))) (blocksAt (now (s .entry)) from ++ blocksAt (now (t .entry)) place)) ⌝ }
-{
-    let mut nowhere = [0u8; 1];
-    put_joined(&mut nowhere, form, s, header, from, t, place)
-}
-
-// How many blocks both have.
-fn joined_count(s: &[u8], header: usize, from: usize, t: &[u8], place: usize) -> usize
-    requires { ⌜ Pair (now s) header from (now t) place ⌝ }
-    ensures { λ r. ⌜ r ≡ length (blocksAt (now (s .entry)) from ++ blocksAt (now (t .entry)) place) ⌝ }
-{
-    count_blocks(s, from) + count_blocks(t, place)
-}
-
-// 18, 14 or 0.
-fn joined_number(
+// 18, 14, or 0 and the length of the joined frame: all that is to be known of it are sums.
+fn fit_both(
     form: u8,
     s: &[u8],
     header: usize,
     from: usize,
+    seen: Survey,
     t: &[u8],
     place: usize,
+    other: Survey,
     room: usize,
-) -> u8
-    requires { ⌜ Pair (now s) header from (now t) place ⌝ }
-    ensures { λ r. ⌜ r ≡ putNumber form (headerCapitals (part header from (now (s .entry)))) (blocksAt (now (s .entry)) from ++ blocksAt (now (t .entry)) place) room ⌝ }
+) -> Written
+    requires { ⌜ Parted (now s) header from seen ⌝ }
+    requires { ⌜ Source (now t) place other ⌝ }
+    ensures { λ r. ⌜ r ≡ answered form (headerCapitals (part header from (now (s .entry)))) (blocksAt (now (s .entry)) from ++ blocksAt (now (t .entry)) place) room ⌝ }
 {
-    let full = joined_length(standard_form(form), s, header, from, t, place);
-    let raw = joined_length(form, s, header, from, t, place);
-    let count = joined_count(s, header, from, t, place);
-    fit_number(form, count, full, raw, room)
+    let escapes = escapes_from(form, s, from) + escapes_from(form, t, place);
+    let count = seen.count + other.count;
+    let bytes = seen.bytes + other.bytes;
+    fit(form, from - header, count, bytes, escapes, room)
 }
 
 // Two frames that may be joined: 18, 14 or the result.
@@ -111,18 +109,31 @@ fn join_calm(
     s: &[u8],
     header: usize,
     from: usize,
+    seen: Survey,
     t: &[u8],
     place: usize,
+    other: Survey,
     out: &mut [u8],
 ) -> Written
-    requires { ⌜ Pair (now s) header from (now t) place ⌝ }
+    requires { ⌜ Parted (now s) header from seen ⌝ }
+    requires { ⌜ Source (now t) place other ⌝ }
     ensures { λ r. ⌜ output r (now (out .exit)) ≡ put form (headerCapitals (part header from (now (s .entry)))) (blocksAt (now (s .entry)) from ++ blocksAt (now (t .entry)) place) (now (out .entry)) ⌝ }
 {
-    let number = joined_number(form, s, header, from, t, place, out.len());
-    if number != 0 {
-        return unwritten(number);
+    let fitted = fit_both(form, s, header, from, seen, t, place, other, out.len());
+    if fitted.number != 0 {
+        return fitted;
     }
-    let length = put_joined(out, form, s, header, from, t, place);
+    let length = put_joined(
+        out,
+        form,
+        s,
+        header,
+        from,
+        seen.count,
+        t,
+        place,
+        other.count,
+    );
     Written { number: 0, length }
 }
 
@@ -139,72 +150,152 @@ fn join_right(
     s: &[u8],
     header: usize,
     from: usize,
+    seen: Survey,
     t: &[u8],
     head: usize,
     place: usize,
+    other: Survey,
     out: &mut [u8],
 ) -> Written
-    requires { ⌜ Parted (now s) header from ⌝ }
-    requires { ⌜ Parted (now t) head place ⌝ }
+    requires { ⌜ Parted (now s) header from seen ⌝ }
+    requires { ⌜ Parted (now t) head place other ⌝ }
     ensures { λ r. ⌜ output r (now (out .exit)) ≡ putJoined form (frame (headerCapitals (part header from (now (s .entry)))) (blocksAt (now (s .entry)) from)) (frame (headerCapitals (part head place (now (t .entry)))) (blocksAt (now (t .entry)) place)) (now (out .entry)) ⌝ }
 {
     if !is_common(&s[header..from], &t[head..place]) {
         return unwritten(HEADERS_DIFFER);
     }
-    if has_read(s, from) {
+    if seen.read {
         return unwritten(FIRST_HAS_READ);
     }
-    join_calm(form, s, header, from, t, place, out)
+    join_calm(form, s, header, from, seen, t, place, other, out)
 }
 
-// The first frame's sums are right, the second frame is read: its 17.
-fn join_bytes(
+// The first frame is read and its sums are right; of the second are the bytes that it stands for, with what a reading of them answers: its
+// 4, 6, 7 and 8, then 17.
+fn join_parts(
     form: u8,
     s: &[u8],
     header: usize,
     from: usize,
+    seen: Survey,
     t: &[u8],
-    head: usize,
-    place: usize,
+    parts: Parts,
     out: &mut [u8],
 ) -> Written
-    requires { ⌜ Parted (now s) header from ⌝ }
-    requires { ⌜ Parted (now t) head place ⌝ }
-    ensures { λ r. ⌜ output r (now (out .exit)) ≡ putJoined form (frame (headerCapitals (part header from (now (s .entry)))) (blocksAt (now (s .entry)) from)) (checked (frame (headerCapitals (part head place (now (t .entry)))) (blocksAt (now (t .entry)) place))) (now (out .entry)) ⌝ }
+    requires { ⌜ Parted (now s) header from seen ⌝ }
+    requires { ⌜ PartsOf (now t) parts ⌝ }
+    ensures { λ r. ⌜ output r (now (out .exit)) ≡ putJoined form (frame (headerCapitals (part header from (now (s .entry)))) (blocksAt (now (s .entry)) from)) (checked (inCapitals (partsView (now (t .entry)) parts))) (now (out .entry)) ⌝ }
 {
-    if !all_right(t, place) {
-        return unwritten(WRONG_SUM);
+    match parts {
+        Parts::Refused(number) => unwritten(number),
+        Parts::At {
+            header: head,
+            body: place,
+            seen: other,
+        } => {
+            if !other.right {
+                return unwritten(WRONG_SUM);
+            }
+            join_right(form, s, header, from, seen, t, head, place, other, out)
+        }
     }
-    join_right(form, s, header, from, t, head, place, out)
 }
 
-// The first frame is read: its 17, then the second's numbers.
+// The bytes that a printable second frame stands for.
+fn join_room(
+    form: u8,
+    s: &[u8],
+    header: usize,
+    from: usize,
+    seen: Survey,
+    t: &[u8],
+    out: &mut [u8],
+) -> Written
+    requires { ⌜ Parted (now s) header from seen ⌝ }
+    requires { ⌜ length (now t) ≤ TRANSLATED ⌝ }
+    ensures { λ r. ⌜ output r (now (out .exit)) ≡ putJoined form (frame (headerCapitals (part header from (now (s .entry)))) (blocksAt (now (s .entry)) from)) (checked (inCapitals (readLed (leadOf true (now (t .entry)))))) (now (out .entry)) ⌝ }
+{
+    let parts = read_parts(t, true);
+    join_parts(form, s, header, from, seen, t, parts, out)
+}
+
+// A printable second frame, whose bytes need a room: this stands by itself, so that a standard frame needs none.
+fn join_printable(
+    form: u8,
+    s: &[u8],
+    header: usize,
+    from: usize,
+    seen: Survey,
+    second: &[u8],
+    out: &mut [u8],
+) -> Written
+    requires { ⌜ Parted (now s) header from seen ⌝ }
+    requires { ⌜ isPrintable (now second) ≡ true ⌝ }
+    ensures { λ r. ⌜ output r (now (out .exit)) ≡ putJoined form (frame (headerCapitals (part header from (now (s .entry)))) (blocksAt (now (s .entry)) from)) (checked (inCapitals (read (now (second .entry))))) (now (out .entry)) ⌝ }
+{
+    let mut room = [0u8; 8192];
+    match translate(second, &mut room) {
+        Translated::Refused(number) => unwritten(number),
+        Translated::Bytes(length) => {
+            join_room(form, s, header, from, seen, &room[..length], out)
+        }
+    }
+}
+
+// The first frame is read and its sums are right: the second's numbers.
 fn join_second(
     form: u8,
     s: &[u8],
     header: usize,
     from: usize,
+    seen: Survey,
     second: &[u8],
     out: &mut [u8],
 ) -> Written
-    requires { ⌜ Parted (now s) header from ⌝ }
-    ensures { λ r. ⌜ output r (now (out .exit)) ≡ putJoined form (checked (frame (headerCapitals (part header from (now (s .entry)))) (blocksAt (now (s .entry)) from))) (checked (inCapitals (read (now (second .entry))))) (now (out .entry)) ⌝ }
+    requires { ⌜ Parted (now s) header from seen ⌝ }
+    ensures { λ r. ⌜ output r (now (out .exit)) ≡ putJoined form (frame (headerCapitals (part header from (now (s .entry)))) (blocksAt (now (s .entry)) from)) (checked (inCapitals (read (now (second .entry))))) (now (out .entry)) ⌝ }
 {
-    if !all_right(s, from) {
-        return unwritten(WRONG_SUM);
+    if is_printable(second) {
+        return join_printable(form, s, header, from, seen, second, out);
     }
+    let parts = read_standard(second);
+    join_parts(form, s, header, from, seen, second, parts, out)
+}
+
+// The bytes that the first frame stands for, with what a reading of them answers: its 4, 6, 7 and 8, then 17.
+fn first_parts(form: u8, s: &[u8], parts: Parts, second: &[u8], out: &mut [u8]) -> Written
+    requires { ⌜ PartsOf (now s) parts ⌝ }
+    ensures { λ r. ⌜ output r (now (out .exit)) ≡ putJoined form (checked (inCapitals (partsView (now (s .entry)) parts))) (checked (inCapitals (read (now (second .entry))))) (now (out .entry)) ⌝ }
+{
+    match parts {
+        Parts::Refused(number) => unwritten(number),
+        Parts::At { header, body, seen } => {
+            if !seen.right {
+                return unwritten(WRONG_SUM);
+            }
+            join_second(form, s, header, body, seen, second, out)
+        }
+    }
+}
+
+// The bytes that a printable first frame stands for.
+fn first_room(form: u8, t: &[u8], second: &[u8], out: &mut [u8]) -> Written
+    requires { ⌜ length (now t) ≤ TRANSLATED ⌝ }
+    ensures { λ r. ⌜ output r (now (out .exit)) ≡ putJoined form (checked (inCapitals (readLed (leadOf true (now (t .entry)))))) (checked (inCapitals (read (now (second .entry))))) (now (out .entry)) ⌝ }
+{
+    let parts = read_parts(t, true);
+    first_parts(form, t, parts, second, out)
+}
+
+// A printable first frame, with a room of its own.
+fn first_printable(form: u8, first: &[u8], second: &[u8], out: &mut [u8]) -> Written
+    requires { ⌜ isPrintable (now first) ≡ true ⌝ }
+    ensures { λ r. ⌜ output r (now (out .exit)) ≡ putJoined form (checked (inCapitals (read (now (first .entry))))) (checked (inCapitals (read (now (second .entry))))) (now (out .entry)) ⌝ }
+{
     let mut room = [0u8; 8192];
-    match read(second, &mut room) {
-        Read::Refused(number) => unwritten(number),
-        Read::Standard {
-            header: head,
-            body: place,
-        } => join_bytes(form, s, header, from, second, head, place, out),
-        Read::Printable {
-            length,
-            header: head,
-            body: place,
-        } => join_bytes(form, s, header, from, &room[..length], head, place, out),
+    match translate(first, &mut room) {
+        Translated::Refused(number) => unwritten(number),
+        Translated::Bytes(length) => first_room(form, &room[..length], second, out),
     }
 }
 
@@ -215,14 +306,9 @@ pub fn join(form: u8, first: &[u8], second: &[u8], out: &mut [u8]) -> Written
     if !is_form(form) {
         return unwritten(WRONG_FORM);
     }
-    let mut room = [0u8; 8192];
-    match read(first, &mut room) {
-        Read::Refused(number) => unwritten(number),
-        Read::Standard { header, body } => join_second(form, first, header, body, second, out),
-        Read::Printable {
-            length,
-            header,
-            body,
-        } => join_second(form, &room[..length], header, body, second, out),
+    if is_printable(first) {
+        return first_printable(form, first, second, out);
     }
+    let parts = read_standard(first);
+    first_parts(form, first, parts, second, out)
 }

@@ -2,15 +2,13 @@
 use crate::Written;
 use crate::numbers::NO_ROOM;
 use crate::numbers::TOO_LONG;
-use forms::PRINTABLE_FORM;
+use forms::lengths::form_length;
+use forms::lengths::render_length;
 use octets::bytes::BLOCKS;
 use octets::bytes::TRANSLATED;
 ghost use mathlib.Core.Path.{_≡_};
 ghost use Rattle.writing.specs.Output.{isForm, writtenAs};
-ghost use Rattle.writing.specs.Sources.{standardForm, longest, fitNumber};
-
-// "five NUL"
-const NULS: usize = 5;
+ghost use Rattle.writing.specs.Sources.{Reckoned, fitted};
 
 // "form not 1, 2 or 3"
 pub fn is_form(form: u8) -> bool
@@ -22,43 +20,39 @@ pub fn is_form(form: u8) -> bool
     form <= 3
 }
 
-// The standard form with the same blocks: what form 3 stands for is form 2 without its NULs.
-pub fn standard_form(form: u8) -> u8
-    ensures { λ r. ⌜ r ≡ standardForm form ⌝ }
-{
-    if form == PRINTABLE_FORM { 2 } else { form }
-}
-
-// How long that form may be where the result stands for at most 8,192 bytes: form 3 is "without the NULs".
-fn longest(form: u8) -> usize
-    ensures { λ r. ⌜ r ≡ longest form ⌝ }
-{
-    if form == PRINTABLE_FORM {
-        TRANSLATED + NULS
-    } else {
-        TRANSLATED
-    }
-}
-
-// 18, 14 or 0, by the number of blocks, the length of the standard form, the result's and the buffer's.
-pub fn fit_number(form: u8, count: usize, full: usize, raw: usize, room: usize) -> u8
-    ensures { λ r. ⌜ r ≡ fitNumber form count full raw room ⌝ }
-{
-    if BLOCKS < count {
-        return TOO_LONG;
-    }
-    if longest(form) < full {
-        return TOO_LONG;
-    }
-    if room < raw {
-        return NO_ROOM;
-    }
-    0
-}
-
 // "length 0"
 pub fn unwritten(number: u8) -> Written
     ensures { λ r. ⌜ r ≡ writtenAs number 0 ⌝ }
 {
     Written { number, length: 0 }
+}
+
+// 18, 14, or 0 and the result's length: reckoned from the length of the header, the number of blocks, the bytes of their data, the escapes
+// among them and the buffer's length.
+pub fn fit(
+    form: u8,
+    header: usize,
+    count: usize,
+    bytes: usize,
+    escapes: usize,
+    room: usize,
+) -> Written
+    requires { ⌜ Reckoned header count bytes escapes ⌝ }
+    ensures { λ r. ⌜ r ≡ fitted form header count bytes escapes room ⌝ }
+{
+    if BLOCKS < count {
+        return unwritten(TOO_LONG);
+    }
+    let long = form_length(form, header, count, bytes);
+    if TRANSLATED < long {
+        return unwritten(TOO_LONG);
+    }
+    let raw = render_length(form, long, count, escapes);
+    if room < raw {
+        return unwritten(NO_ROOM);
+    }
+    Written {
+        number: 0,
+        length: raw,
+    }
 }

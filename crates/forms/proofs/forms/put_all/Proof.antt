@@ -1,50 +1,26 @@
-use Prim.Native.Nat.{_-_}
-use lib.ListN.{length}
-use Rattle.forms.proofs.Puttings.{Copying, copying}
+use Rattle.forms.proofs.Puttings.{runs}
 use Rattle.forms.proofs.forms.put_all.Statement.{statement}
 use Rattle.forms.proofs.forms.put_all.Tie as tie
 
-abbrev Inv-loop : tie.InvT-loop
-Inv-loop out₀ at form s next₀ i₀ out next i = Copying out₀ at form s out next i
+put-run-requires : tie.Need-put-run-requires
+put-run-requires c κs = search runs
 
-abbrev μ-loop : tie.MeasureT-loop
-μ-loop out₀ at form s next₀ i₀ out next i = length s - i
+same-length : tie.Need-same-length
+same-length c = search runs
 
-loop-holds : tie.Need-loop-holds Inv-loop μ-loop
-loop-holds c = search copying
+returns : tie.Need-returns
+returns c = search runs
 
-shared-slice-read-put-one : tie.Need-shared-slice-read-put-one Inv-loop μ-loop
-shared-slice-read-put-one c = search copying
+put-each-requires : tie.Need-put-each-requires
+put-each-requires c κs = search runs
 
-put-one-requires : tie.Need-put-one-requires Inv-loop μ-loop
-put-one-requires c κs = search copying
+same-length-2 : tie.Need-same-length-2
+same-length-2 c = search runs
 
-add-i : tie.Need-add-i Inv-loop μ-loop
-add-i c = search copying
-
-loop-less : tie.Need-loop-less Inv-loop μ-loop
-loop-less c = search copying
-
-loop-again : tie.Need-loop-again Inv-loop μ-loop
-loop-again c = search copying
-
-same-length : tie.Need-same-length Inv-loop μ-loop
-same-length c = search copying
-
-returns : tie.Need-returns Inv-loop μ-loop
-returns c = search copying
+returns-2 : tie.Need-returns-2
+returns-2 c = search runs
 
 pub put-all-spec : {M : Type 1} → statement M
 put-all-spec =
     tie.close
-    (tie.spec
-    Inv-loop
-    μ-loop
-    loop-holds
-    shared-slice-read-put-one
-    put-one-requires
-    add-i
-    loop-less
-    loop-again
-    same-length
-    returns)
+    (tie.spec put-run-requires same-length returns put-each-requires same-length-2 returns-2)

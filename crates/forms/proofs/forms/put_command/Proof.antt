@@ -1,5 +1,4 @@
-use native.Mathlib.Omega.{arith}
-use Rattle.forms.proofs.Puttings.{puts-near, parts}
+use Rattle.forms.proofs.Puttings.{parts}
 use Rattle.forms.proofs.forms.put_command.Statement.{statement}
 use Rattle.forms.proofs.forms.put_command.Tie as tie
 
@@ -7,7 +6,7 @@ put-one-requires : tie.Need-put-one-requires
 put-one-requires c κs = search parts
 
 put-one-requires-2 : tie.Need-put-one-requires-2
-put-one-requires-2 c κs = omega (arith, puts-near)
+put-one-requires-2 c κs = search parts
 
 same-length : tie.Need-same-length
 same-length c = search parts

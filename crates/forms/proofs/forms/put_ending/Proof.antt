@@ -1,5 +1,4 @@
-use native.Mathlib.Omega.{arith}
-use Rattle.forms.proofs.Puttings.{puts-near, parts}
+use Rattle.forms.proofs.Puttings.{parts}
 use Rattle.forms.proofs.forms.put_ending.Statement.{statement}
 use Rattle.forms.proofs.forms.put_ending.Tie as tie
 
@@ -9,11 +8,8 @@ returns c = search parts
 put-one-requires : tie.Need-put-one-requires
 put-one-requires c κs = search parts
 
-checksum-requires : tie.Need-checksum-requires
-checksum-requires c κs = search parts
-
 put-sum-requires : tie.Need-put-sum-requires
-put-sum-requires c κs = omega (arith, puts-near)
+put-sum-requires c κs = search parts
 
 same-length : tie.Need-same-length
 same-length c = search parts
@@ -23,5 +19,4 @@ returns-2 c = search parts
 
 pub put-ending-spec : {M : Type 1} → statement M
 put-ending-spec =
-    tie.close
-    (tie.spec returns put-one-requires checksum-requires put-sum-requires same-length returns-2)
+    tie.close (tie.spec returns put-one-requires put-sum-requires same-length returns-2)

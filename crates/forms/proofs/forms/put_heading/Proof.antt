@@ -1,5 +1,4 @@
-use native.Mathlib.Omega.{arith}
-use Rattle.forms.proofs.Puttings.{puts-near, nuls-near, headings}
+use Rattle.forms.proofs.Puttings.{headings}
 use Rattle.forms.proofs.forms.put_heading.Statement.{statement}
 use Rattle.forms.proofs.forms.put_heading.Tie as tie
 
@@ -7,10 +6,10 @@ put-nuls-requires : tie.Need-put-nuls-requires
 put-nuls-requires c κs = search headings
 
 put-one-requires : tie.Need-put-one-requires
-put-one-requires c κs = omega (arith, nuls-near)
+put-one-requires c κs = search headings
 
 put-header-requires : tie.Need-put-header-requires
-put-header-requires c κs = omega (arith, nuls-near, puts-near)
+put-header-requires c κs = search headings
 
 same-length : tie.Need-same-length
 same-length c = search headings

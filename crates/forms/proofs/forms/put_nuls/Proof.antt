@@ -5,11 +5,11 @@ use Rattle.forms.proofs.forms.put_nuls.Tie as tie
 returns : tie.Need-returns
 returns c = search headings
 
-slice-aggregate-put-all : tie.Need-slice-aggregate-put-all
-slice-aggregate-put-all c = search headings
+slice-aggregate-put-run : tie.Need-slice-aggregate-put-run
+slice-aggregate-put-run c = search headings
 
-put-all-requires : tie.Need-put-all-requires
-put-all-requires c κs = search headings
+put-run-requires : tie.Need-put-run-requires
+put-run-requires c κs = search headings
 
 same-length : tie.Need-same-length
 same-length c = search headings
@@ -19,4 +19,4 @@ returns-2 c = search headings
 
 pub put-nuls-spec : {M : Type 1} → statement M
 put-nuls-spec =
-    tie.close (tie.spec returns slice-aggregate-put-all put-all-requires same-length returns-2)
+    tie.close (tie.spec returns slice-aggregate-put-run put-run-requires same-length returns-2)

@@ -1,5 +1,4 @@
-use native.Mathlib.Omega.{arith}
-use Rattle.forms.proofs.Puttings.{puts-near, parts}
+use Rattle.forms.proofs.Puttings.{parts}
 use Rattle.forms.proofs.forms.put_opened.Statement.{statement}
 use Rattle.forms.proofs.forms.put_opened.Tie as tie
 
@@ -7,7 +6,7 @@ put-command-requires : tie.Need-put-command-requires
 put-command-requires c κs = search parts
 
 put-all-requires : tie.Need-put-all-requires
-put-all-requires c κs = omega (arith, puts-near)
+put-all-requires c κs = search parts
 
 same-length : tie.Need-same-length
 same-length c = search parts

@@ -23,8 +23,8 @@ is-header-requires c κs = search leading
 returns-2 : tie.Need-returns-2
 returns-2 c = search leading
 
-judge-requires : tie.Need-judge-requires
-judge-requires c κs = search leading
+survey-at-requires : tie.Need-survey-at-requires
+survey-at-requires c κs = search leading
 
 returns-3 : tie.Need-returns-3
 returns-3 c = search leading
@@ -43,6 +43,6 @@ read-led-spec =
     part-is-header-end
     is-header-requires
     returns-2
-    judge-requires
+    survey-at-requires
     returns-3
     returns-4)

@@ -1,57 +1,39 @@
-use Rattle.writing.proofs.JoinLaws.{firsts}
+use Rattle.writing.proofs.JoinLaws.{joins}
 use Rattle.writing.proofs.joining.join.Statement.{statement}
 use Rattle.writing.proofs.joining.join.Tie as tie
 
 is-form-requires : tie.Need-is-form-requires
-is-form-requires c κs = search firsts
+is-form-requires c κs = search joins
 
 unwritten-requires : tie.Need-unwritten-requires
-unwritten-requires c κs = search firsts
+unwritten-requires c κs = search joins
 
 returns : tie.Need-returns
-returns c = search firsts
+returns c = search joins
 
-read-requires : tie.Need-read-requires
-read-requires c κs = search firsts
+is-printable-requires : tie.Need-is-printable-requires
+is-printable-requires c κs = search joins
 
-enum-known-number : tie.Need-enum-known-number
-enum-known-number c = search firsts
-
-unwritten-requires-2 : tie.Need-unwritten-requires-2
-unwritten-requires-2 c κs = search firsts
-
-enum-known-header : tie.Need-enum-known-header
-enum-known-header c = search firsts
-
-join-second-requires : tie.Need-join-second-requires
-join-second-requires c κs = search firsts
-
-enum-known-length : tie.Need-enum-known-length
-enum-known-length c = search firsts
-
-array-share-prefix-room : tie.Need-array-share-prefix-room
-array-share-prefix-room c = search firsts
-
-slice-aggregate-join-second : tie.Need-slice-aggregate-join-second
-slice-aggregate-join-second c = search firsts
-
-join-second-requires-2 : tie.Need-join-second-requires-2
-join-second-requires-2 c κs = search firsts
-
-returns-2 : tie.Need-returns-2
-returns-2 c = search firsts
+first-printable-requires : tie.Need-first-printable-requires
+first-printable-requires c κs = search joins
 
 same-length : tie.Need-same-length
-same-length c = search firsts
+same-length c = search joins
 
-returns-3 : tie.Need-returns-3
-returns-3 c = search firsts
+returns-2 : tie.Need-returns-2
+returns-2 c = search joins
+
+read-standard-requires : tie.Need-read-standard-requires
+read-standard-requires c κs = search joins
+
+first-parts-requires : tie.Need-first-parts-requires
+first-parts-requires c κs = search joins
 
 same-length-2 : tie.Need-same-length-2
-same-length-2 c = search firsts
+same-length-2 c = search joins
 
-returns-4 : tie.Need-returns-4
-returns-4 c = search firsts
+returns-3 : tie.Need-returns-3
+returns-3 c = search joins
 
 pub join-spec : {M : Type 1} → statement M
 join-spec =
@@ -60,17 +42,11 @@ join-spec =
     is-form-requires
     unwritten-requires
     returns
-    read-requires
-    enum-known-number
-    unwritten-requires-2
-    enum-known-header
-    join-second-requires
-    enum-known-length
-    array-share-prefix-room
-    slice-aggregate-join-second
-    join-second-requires-2
-    returns-2
+    is-printable-requires
+    first-printable-requires
     same-length
-    returns-3
+    returns-2
+    read-standard-requires
+    first-parts-requires
     same-length-2
-    returns-4)
+    returns-3)

@@ -29,9 +29,6 @@ unwritten-requires c κs = search joining
 returns : tie.Need-returns
 returns c = search joining
 
-has-read-requires : tie.Need-has-read-requires
-has-read-requires c κs = search joining
-
 unwritten-requires-2 : tie.Need-unwritten-requires-2
 unwritten-requires-2 c κs = search joining
 
@@ -60,7 +57,6 @@ join-right-spec =
     is-common-requires
     unwritten-requires
     returns
-    has-read-requires
     unwritten-requires-2
     returns-2
     join-calm-requires

@@ -26,14 +26,20 @@ unwritten-requires-3 c κs = search writing
 returns-3 : tie.Need-returns-3
 returns-3 c = search writing
 
-all-plain-requires : tie.Need-all-plain-requires
-all-plain-requires c κs = search writing
+opening-requires : tie.Need-opening-requires
+opening-requires c κs = search writing
+
+add-up-requires : tie.Need-add-up-requires
+add-up-requires c κs = search writing
 
 unwritten-requires-4 : tie.Need-unwritten-requires-4
 unwritten-requires-4 c κs = search writing
 
 returns-4 : tie.Need-returns-4
 returns-4 c = search writing
+
+added-requires : tie.Need-added-requires
+added-requires c κs = search writing
 
 write-plain-requires : tie.Need-write-plain-requires
 write-plain-requires c κs = search writing
@@ -56,9 +62,11 @@ write-spec =
     returns-2
     unwritten-requires-3
     returns-3
-    all-plain-requires
+    opening-requires
+    add-up-requires
     unwritten-requires-4
     returns-4
+    added-requires
     write-plain-requires
     same-length
     returns-5)
