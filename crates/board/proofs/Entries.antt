@@ -1,20 +1,18 @@
 -- The entries of an index, as the code takes them: one by its label, how many there are, and the file that one names.
-use mathlib.Core.Path.{_≡_, sym, _∙_}
+use mathlib.Core.Path.{_≡_, refl, sym, _∙_}
 use mathlib.Core.Bool.{Bool, true, false}
 use mathlib.Core.List.{List}
 use Prim.Native.Nat.{ℕ, _+_, _-_, _<_, _≤_}
-use mir.Syntax.{w16}
-use mir.Val.{Fits}
 use native.Mathlib.Omega.{arith}
 use borrow.Author.Needs.{needs}
 use borrow.Author.Tests.{eq-eqb, ne-eqb, le-leb, lt-leb}
-use lib.ListN.{length, drop, drop-of-length-le}
+use lib.ListN.{length, drop}
 use Rattle.octets.specs.Choice.{_is_, _!_}
-use Rattle.octets.proofs.Spots.{drop-on}
+use Rattle.octets.proofs.Counts.{count-one, count-none, counting}
 use Rattle.octets.proofs.Tests.{compare}
 use Rattle.board.specs.Files.{sizeOf}
 use Rattle.board.specs.Index.{FIRST-LABEL, LAST-LABEL, ENTRIES, NOWHERE, entry, ofType, lookUp}
-use Rattle.board.specs.Noted.{entries, Within}
+use Rattle.board.specs.Noted.{isPlace, entries, Within}
 use Rattle.board.specs.declared.Found.{Found}
 use Rattle.board.specs.declared.Found.the-variants.{At, Nothing}
 
@@ -55,36 +53,18 @@ pub ruleset entering = (entry-low, entry-high, entry-slot, entry-told, needs)
 -- ---- how many labels have one
 
 module _ (p : List ℕ) (i : ℕ) (h : i < length p) where
-  pub count-none : p ! i ≡ NOWHERE → 0 + entries (drop (i + 1) p) ≡ entries (drop i p)
-  unfolding entries
-  count-none e = rw (drop-on p i h, eq-eqb (p ! i) NOWHERE e)
+  pub place-none : p ! i ≡ NOWHERE → 0 + entries (drop (i + 1) p) ≡ entries (drop i p)
+  unfolding isPlace
+  place-none e = count-none isPlace p i h false (rw (eq-eqb (p ! i) NOWHERE e)) refl
 
-  pub count-one : (p ! i ≡ NOWHERE → ⊥) → 1 + entries (drop (i + 1) p) ≡ entries (drop i p)
-  unfolding entries
-  count-one n = rw (drop-on p i h, ne-eqb (p ! i) NOWHERE n)
+  pub place-one : (p ! i ≡ NOWHERE → ⊥) → 1 + entries (drop (i + 1) p) ≡ entries (drop i p)
+  unfolding isPlace
+  place-one n = count-one isPlace p i h true (rw (ne-eqb (p ! i) NOWHERE n)) refl
 
--- those before place i are counted
-pub record Counted (p : List ℕ) (sum i : ℕ) : Type 0 where
-  pub inside : i ≤ length p
-  pub few : sum ≤ i
-  pub same : sum + entries (drop i p) ≡ entries p
+pub places-few : (p : List ℕ) → length p ≡ ENTRIES → length p < 65536
+places-few p l = omega arith
 
-pub count-start : (p : List ℕ) → Counted p 0 0
-count-start p = record { inside = omega arith; few = omega arith; same = omega arith }
-
-module _ {p : List ℕ} {sum i : ℕ} (g : Counted p sum i) where
-  module _ (h : i < length p) (v : ℕ) (m : v ≤ 1) where
-    pub count-fits : length p ≡ ENTRIES → Fits w16 (sum + v)
-    count-fits l = record { fits = omega (arith, g .few) }
-
-    pub count-on : v + entries (drop (i + 1) p) ≡ entries (drop i p) → Counted p (sum + v) (i + 1)
-    count-on e = record { inside = omega arith; few = omega (arith, g .few); same = omega (arith, g .same, e) }
-
-  pub count-end : length p ≤ i → sum ≡ entries p
-  unfolding entries
-  count-end h = let e : sum + 0 ≡ entries p = rw (drop-of-length-le p h) at (g .same) in omega (arith, e)
-
-pub ruleset counting = (count-none, count-one, count-start, count-fits, count-on, count-end, needs)
+pub ruleset placing = (place-none, place-one, places-few, counting)
 
 -- ---- the file that it names
 

@@ -9,12 +9,13 @@ use borrow.Author.Tests.{eq-eqb, ne-eqb, eqb-true, eqb-false, leb-true, not-true
 use lib.ListN.{length, drop, set, length-set, getD-replicate, drop-of-length-le}
 use lib.Seq.{getD-set-same, getD-set-other, ext-getD}
 use Rattle.octets.specs.Choice.{if_then_else_, _is_, _≤?_, between, _!_, among}
+use Rattle.octets.specs.Counts.{count}
 use Rattle.octets.proofs.Spots.{drop-on}
 use Rattle.octets.proofs.Tests.{by-test, compare, never, split, or-in, or-out-left, or-out-right, and-both, suc-less-one}
 use Rattle.board.specs.Files.{File, sizeOf, filesOf, used, labels, distinct, isAt, find}
 use Rattle.board.specs.Soundness.{isLabel, isRecord, holdsFiles}
 use Rattle.board.specs.Index.{FIRST-LABEL, LAST-LABEL, ENTRIES, NOWHERE, entry, namesEach, namesNoOther, isIndex, noEntries, entered, ofType, lookUp}
-use Rattle.board.specs.Noted.{entries, Within}
+use Rattle.board.specs.Noted.{isPlace, entries, Within}
 use Rattle.board.specs.declared.Found.the-variants.{Nothing}
 use Rattle.board.proofs.Checks.{at-label, at-other}
 use Rattle.board.proofs.Layouts.{AllValid}
@@ -93,11 +94,13 @@ module _ (p : List ℕ) where
 
   -- where none are left out, these are all
   others-all : length p ≡ ENTRIES → (n label : ℕ) → FIRST-LABEL ≤ label → label + n ≡ 127 → others p [] label n ≡ entries (drop (label - FIRST-LABEL) p)
-  unfolding others entries among
+  unfolding others count isPlace among
   others-all l zero label a b = let h : length p ≤ label - FIRST-LABEL = omega arith in rw (drop-of-length-le p h)
   others-all l (suc n) label a b =
       let i : suc label - FIRST-LABEL ≡ label - FIRST-LABEL + 1 = omega arith in
-      rw (drop-on p (label - FIRST-LABEL) (omega arith), ← entry-there p label a (omega arith), others-all l n (suc label) (omega arith) (omega arith), i)
+      let t = others-all l n (suc label) (omega arith) (omega arith) in
+      rw (drop-on p (label - FIRST-LABEL) (omega arith), ← entry-there p label a (omega arith), t, i)
+      (by-test (p ! (label - FIRST-LABEL) is NOWHERE) (λ e. rw e (omega arith)) (λ e. rw e (omega arith)))
 
   -- leaving one more out, which has an entry, takes away one
   module _ (ls : List ℕ) (x : ℕ) (c : among x ls ≡ false) (s : entry p x ≡ NOWHERE → ⊥) where

@@ -2,9 +2,10 @@
 use Prim.Native.Nat.{ℕ, _+_, _≤_}
 use mathlib.Core.Path.{_≡_}
 use mathlib.Core.Bool.{Bool, _&&_}
-use mathlib.Core.List.{List, [], _∷_}
+use mathlib.Core.List.{List}
 use lib.ListN.{length}
-use Rattle.octets.specs.Choice.{if_then_else_, _is_}
+use Rattle.octets.specs.Choice.{if_then_else_, _is_, _isn't_}
+use Rattle.octets.specs.Counts.{count}
 use Rattle.octets.specs.declared.hex.Four.{Four}
 use Rattle.octets.specs.declared.hex.Four.the-variants.{Value, Bad}
 use Rattle.board.specs.Files.{sizeOf, filesOf, unused}
@@ -23,10 +24,13 @@ recordOrNone zeroToo r = if isRecord zeroToo r then Value (sizeOf r) else Bad
 unfoldable pub lengthAt : List ℕ → ℕ
 lengthAt r = if isFileAt r then 11 + sizeOf r else 0
 
--- how many labels have an entry
-unfoldable pub entries : List ℕ → ℕ
-entries [] = 0
-entries (x ∷ p) = (if x is NOWHERE then 0 else 1) + entries p
+-- an entry that is a place
+unfoldable pub isPlace : ℕ → Bool
+isPlace x = x isn't NOWHERE
+
+-- how many labels have one
+abbrev pub entries : List ℕ → ℕ
+entries p = count isPlace p
 
 -- memory holds n files as it has to, u bytes are unused, and p has the place of each file
 unfoldable pub holdsNoted : ℕ → ℕ → List ℕ → List ℕ → Bool

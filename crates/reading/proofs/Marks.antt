@@ -151,6 +151,10 @@ stand-at s i y z p q b e =
     let v : l ! 1 ≡ s ! (i + 2) = get-at s (i + 1) 1 ∙ ap (λ j. s ! j) k in
     e ∙ rw (p, q, capitals-at l 0, capitals-at l 1, u, v)
 
+pub stand-before : (s : List ℕ) (i : ℕ) (b : Bool)
+    → b ≡ (between 0x20 0x7E (s ! i) && (s ! i isn't ESCAPE || (isCarried (s ! (i + 1)) && isCarried (s ! (i + 2))))) → b ≡ mayStand (s ! i) (drop (i + 1) s)
+stand-before s i b e = stand-at s i (s ! (i + 1)) (s ! (i + 2)) refl refl b e
+
 -- those before place i are tested
 pub record Standing (s : List ℕ) (passed : Bool) (i : ℕ) : Type 0 where
   pub inside : i ≤ length s
@@ -162,6 +166,9 @@ stand-start s = record { inside = omega arith; tested = refl }
 module _ {s : List ℕ} {passed : Bool} {i : ℕ} (g : Standing s passed i) where
   pub stand-in : (last : ℕ) → last ≡ length s - 2 → i < last → i < length s
   stand-in last e h = omega (arith, e)
+
+  pub stand-behind : (last : ℕ) → last ≡ length s - 2 → i < last → i + 2 < length s
+  stand-behind last e h = omega (arith, e)
 
   pub stand-next : i < length s → (b : Bool) → b ≡ mayStand (s ! i) (drop (i + 1) s) → Standing s (passed && b) (i + 1)
   unfolding allStand
@@ -176,7 +183,7 @@ module _ {s : List ℕ} {passed : Bool} {i : ℕ} (g : Standing s passed i) wher
   unfolding allStand
   stand-end h = sym (and-some passed refl) ∙ rw (drop-of-length-le s h) at (g .tested)
 
-pub ruleset standing = (stand-two, stand-at, stand-start, stand-in, stand-next, stand-end, needs)
+pub ruleset standing = (stand-two, stand-at, stand-before, stand-start, stand-in, stand-behind, stand-next, stand-end, needs)
 
 -- ---- "_"
 

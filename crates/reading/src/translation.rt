@@ -84,6 +84,14 @@ fn stands_at(s: &[u8], i: usize) -> bool
     may_stand(s[i], byte_at(s, i + 1), byte_at(s, i + 2))
 }
 
+// The same where none is missing.
+fn stands_before(s: &[u8], i: usize) -> bool
+    requires { ⌜ i + 2 < length (now s) ⌝ }
+    ensures { λ r. ⌜ r ≡ mayStand (now (s .entry) ! i) (drop (i + 1) (now (s .entry))) ⌝ }
+{
+    may_stand(s[i], s[i + 1], s[i + 2])
+}
+
 // Where the last two places start.
 fn last_two(length: usize) -> usize
     ensures { λ r. ⌜ r ≡ length - 2 ⌝ }
@@ -91,8 +99,7 @@ fn last_two(length: usize) -> usize
     if length < 2 { 0 } else { length - 2 }
 }
 
-// Whether every byte may stand where it does. Before the last two places no byte is missing, which a compiler sees only where they stand
-// by themselves.
+// Whether every byte may stand where it does. The last two places stand by themselves: no other byte asks for one that is missing.
 fn all_stand(s: &[u8]) -> bool
     ensures { λ r. ⌜ r ≡ allStand (now (s .entry)) ⌝ }
 {
@@ -100,7 +107,7 @@ fn all_stand(s: &[u8]) -> bool
     let mut i = 0;
     let last = last_two(s.len());
     while i < last {
-        passed = passed & stands_at(s, i);
+        passed = passed & stands_before(s, i);
         i += 1;
     }
     while i < s.len() {

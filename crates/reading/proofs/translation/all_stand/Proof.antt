@@ -22,8 +22,8 @@ last-two-requires c κs = search standing
 loop-holds : tie.Need-loop-holds Inv-loop μ-loop Inv-loop2 μ-loop2
 loop-holds c = search standing
 
-stands-at-requires : tie.Need-stands-at-requires Inv-loop μ-loop Inv-loop2 μ-loop2
-stands-at-requires c κs = search standing
+stands-before-requires : tie.Need-stands-before-requires Inv-loop μ-loop Inv-loop2 μ-loop2
+stands-before-requires c κs = search standing
 
 add-i : tie.Need-add-i Inv-loop μ-loop Inv-loop2 μ-loop2
 add-i c = search standing
@@ -37,8 +37,8 @@ loop-again c = search standing
 loop2-holds : tie.Need-loop2-holds Inv-loop μ-loop Inv-loop2 μ-loop2
 loop2-holds c = search standing
 
-stands-at-requires-2 : tie.Need-stands-at-requires-2 Inv-loop μ-loop Inv-loop2 μ-loop2
-stands-at-requires-2 c κs = search standing
+stands-at-requires : tie.Need-stands-at-requires Inv-loop μ-loop Inv-loop2 μ-loop2
+stands-at-requires c κs = search standing
 
 add-i-2 : tie.Need-add-i-2 Inv-loop μ-loop Inv-loop2 μ-loop2
 add-i-2 c = search standing
@@ -62,12 +62,12 @@ all-stand-spec =
     μ-loop2
     last-two-requires
     loop-holds
-    stands-at-requires
+    stands-before-requires
     add-i
     loop-less
     loop-again
     loop2-holds
-    stands-at-requires-2
+    stands-at-requires
     add-i-2
     loop2-less
     loop2-again
