@@ -6,7 +6,7 @@
 #include <pagozkin.h>
 #include <string.h>
 
-enum { BLOCKS = 30, STRIDE = 16, HALF = 8, MEMORY = 32768 };
+enum { BLOCKS = 30, STRIDE = 16, MEMORY = 32768 };
 
 static uint8_t memory[MEMORY];
 static uint8_t reply[MEMORY + PAGOZKIN_REPLY_ROOM];
@@ -86,46 +86,27 @@ static void put_sum(frame *f, size_t stx)
     f->length += 4;
 }
 
-/* Looks at bytes of which there are so many in all: n from a place on, if there are n. Whether they are all before `to`. */
-static int count_many(size_t *counts, size_t length, size_t at, size_t to, size_t n)
+/* How often bytes, so many in all, are looked at when the end of a run of them is searched: sixteen at a time up to those in which it ends, if
+ * there are sixteen, and from these on one by one up to the byte that ends it. So these are 17 looks more than it has bytes, or one more. */
+static void count_run(size_t *counts, size_t length, size_t from, size_t to)
 {
-    if (length - at < n)
-        return 0;
-    for (size_t k = 0; k < n; k++)
-        counts[at + k]++;
-    return to - at >= n;
-}
-
-/* One by one, and the byte that ends them. */
-static void count_each(size_t *counts, size_t at, size_t to)
-{
+    size_t at = from;
+    while (length - at >= STRIDE) {
+        for (size_t k = 0; k < STRIDE; k++)
+            counts[at + k]++;
+        if (to - at < STRIDE)
+            break;
+        at += STRIDE;
+    }
     for (; at <= to; at++)
         counts[at]++;
 }
 
-/* How often bytes are looked at when the end of a run of them is searched: sixteen at a time, and then one by one. */
-static void count_run(size_t *counts, size_t length, size_t from, size_t to)
-{
-    while (count_many(counts, length, from, to, STRIDE))
-        from += STRIDE;
-    count_each(counts, from, to);
-}
-
-/* How often by a walk over all blocks: eight bytes of the data, then sixteen at a time, then eight, and then one by one; where the first
- * eight are not all data, one by one from the start. */
+/* By a walk over all blocks. */
 static void count_walk(frame *f)
 {
-    for (size_t i = 0; i < BLOCKS; i++) {
-        size_t at = f->from[i], to = f->to[i];
-        if (count_many(f->walk, f->length, at, to, HALF)) {
-            at += HALF;
-            while (count_many(f->walk, f->length, at, to, STRIDE))
-                at += STRIDE;
-            if (count_many(f->walk, f->length, at, to, HALF))
-                at += HALF;
-        }
-        count_each(f->walk, at, to);
-    }
+    for (size_t i = 0; i < BLOCKS; i++)
+        count_run(f->walk, f->length, f->from[i], f->to[i]);
 }
 
 /* In form 1, or in form 2, which has sums. The first message is empty, each other four bytes longer than the one before. */
@@ -211,7 +192,7 @@ static void run(const frame *f)
     each("run", f, 2, 1);
 }
 
-/* Tested and added up at one look, and put; in form 3 what needs an escape is counted before. */
+/* Tested and added up at one look, and put; in form 3 what needs an escape is counted between. */
 static void write(uint8_t form, size_t besides)
 {
     const uint8_t *text = plain.bytes + plain.from[BLOCKS - 1];
@@ -249,8 +230,8 @@ int main(void)
     run(&plain);
     run(&summed);
     for (uint8_t form = 1; form <= 3; form++) {
-        size_t besides = form == 3 ? 2 : 1; /* put, and in form 3 counted */
-        write(form, 1 + besides);
+        size_t besides = form == 3 ? 3 : 2; /* added up and put, and in form 3 counted */
+        write(form, besides);
         reform(&plain, form, besides);
         reform(&summed, form, besides);
         join(&plain, &summed, form, besides);

@@ -2,7 +2,7 @@
 use mathlib.Core.Path.{_≡_, refl, sym, ap, _∙_, subst}
 use mathlib.Core.Bool.{Bool, true, false, _&&_, _||_}
 use mathlib.Core.List.{List, [], _∷_}
-use Prim.Native.Nat.{ℕ, zero, suc, _+_, _-_, _%_, _<_, _≤_}
+use Prim.Native.Nat.{ℕ, zero, suc, _+_, _-_, _<_, _≤_}
 use native.Mathlib.Omega.{arith}
 use borrow.Author.Needs.{needs}
 use borrow.Author.Tests.{ne-eqb, leb-true}
@@ -17,10 +17,8 @@ use Rattle.octets.proofs.Tests.{choice, and-right, never}
 use Rattle.body.specs.Sum.{checksum}
 use Rattle.body.specs.Body.{Block, block, Step, stray, more, last, Body, badBody, body}
 use Rattle.body.specs.Body.{isEnd, follow, afterEtx, afterData, blockAt, prepend, onward, blocks}
-use Rattle.body.specs.Walking.{part, opening, walked, left, blocksIn, isBody, bodyAt, blocksAt}
+use Rattle.body.specs.Walking.{part, left, blocksIn, isBody, bodyAt, blocksAt}
 use Rattle.body.specs.Taking.{takenAs, behindData, takenAt}
-use Rattle.body.specs.declared.walk.Walked.{Walked}
-use Rattle.body.proofs.Sums.{sum-block}
 use Rattle.body.proofs.Walks.{left-within}
 
 -- ---- what stands behind the data, which end at place to
@@ -44,24 +42,27 @@ module _ (s : List ℕ) (to x : ℕ) (e : x ≡ s ! to) where
 
 -- ---- the block whose STX stands at place at
 
--- its data, walked with a sum
-module _ (s : List ℕ) (at o : ℕ) (w : Walked) (e : w ≡ walked (at + 2) o (left s (at + 2))) where
-  ends : w .to ≡ at + 2 + length (left s (at + 2))
-  ends = ap (λ x. x .to) e
-
+-- its data, which end at place to
+module _ (s : List ℕ) (at to : ℕ) (e : to ≡ at + 2 + length (left s (at + 2))) where
   -- they end inside
-  pub take-in : at + 2 ≤ length s → w .to ≤ length s
-  take-in h = omega (arith, ends, left-within s (at + 2))
+  pub take-in : at + 2 ≤ length s → to ≤ length s
+  take-in h = omega (arith, e, left-within s (at + 2))
+
+  -- and are what stands between
+  take-text : part (at + 2) to s ≡ left s (at + 2)
+  take-text =
+      let z : to - (at + 2) ≡ length (left s (at + 2)) = omega arith in
+      rw z (take-front isPlain (drop (at + 2) s))
 
   -- the command byte, the data's end, the sum, and the place behind
-  pub take-made : (c : ℕ) → c ≡ s ! (at + 1) → o ≡ opening c → (v : ℕ) → v ≡ (w .sum + ETX) % 65536 → (n : ℕ) → n ≡ behindData s (w .to)
-      → takenAs c (w .to) v n ≡ takenAt s at
+  pub take-made : (c : ℕ) → c ≡ s ! (at + 1) → (v : ℕ) → v ≡ checksum c (part (at + 2) to s) → (n : ℕ) → n ≡ behindData s to
+      → takenAs c to v n ≡ takenAt s at
   unfolding takenAt
-  take-made c f h v q n g =
+  take-made c f v q n g =
       let d : List ℕ = left s (at + 2) in
-      let sum : v ≡ checksum (s ! (at + 1)) d = sum-block c d o (w .sum) v h (ap (λ x. x .sum) e) q ∙ ap (λ x. checksum x d) f in
-      let next : n ≡ behindData s (at + 2 + length d) = g ∙ ap (behindData s) ends in
-      λ i. takenAs (f i) (ends i) (sum i) (next i)
+      let sum : v ≡ checksum (s ! (at + 1)) d = q ∙ ap (checksum c) take-text ∙ ap (λ x. checksum x d) f in
+      let next : n ≡ behindData s (at + 2 + length d) = g ∙ ap (behindData s) e in
+      λ i. takenAs (f i) (e i) (sum i) (next i)
 
 pub ruleset takings = (behind-none, behind-plain, behind-sum, take-in, take-made, needs)
 

@@ -16,7 +16,7 @@ use Rattle.octets.proofs.Tests.{by-test, never}
 use Rattle.octets.proofs.Scans.{plain, not-plain}
 use Rattle.octets.proofs.Places.{front-length, front-split, front-go, front-no, front-out}
 use Rattle.body.specs.Sum.{sumFrom}
-use Rattle.body.specs.Walking.{part, STRIDE, HALF, stretched, walked, left, Walks, Near, Halved}
+use Rattle.body.specs.Walking.{part, STRIDE, stretched, walked, left, Walks, Near}
 use Rattle.body.specs.declared.sum.Stretch.{Stretch}
 use Rattle.body.specs.declared.walk.Walked.{Walked}
 use Rattle.body.proofs.Sums.{sum-append}
@@ -64,48 +64,22 @@ module _ {s : List ℕ} {from start to sum : ℕ} (g : Walks s from start to sum
 pub walk-less : (s : List ℕ) (to : ℕ) → to < length s → 5 ≤ s ! to → length (left s (to + 1)) < length (left s to)
 walk-less s to h k = omega (arith, ap length (left-on s to h k))
 
--- ---- many bytes at a time
+-- ---- sixteen bytes at a time
 
 module _ (p : ℕ → Bool) where
-  -- where one does not pass, the front is shorter
+  -- where one does not, the front is shorter
   front-few : (n : ℕ) (l : List ℕ) → all p (take n l) ≡ false → length (front p l) < n
   unfolding front all
   front-few zero l a = never a
   front-few (suc n) [] a = never a
   front-few (suc n) (x ∷ l) a = by-test (p x) (λ e. let z = front-few n l (rw e at a) in rw e (omega (arith, z))) (λ e. rw e (omega arith))
 
--- n bytes from a place on
-part-of : (n : ℕ) (s : List ℕ) (at start : ℕ) (t : Stretch) → t ≡ stretched start (part at (at + n) s) → t ≡ stretched start (take n (drop at s))
-part-of n s at start t e = let z : at + n - at ≡ n = omega arith in rw z at e
-
-module _ (n : ℕ) {s : List ℕ} {from start to sum : ℕ} (g : Walks s from start to sum) (t : Stretch) (e : t ≡ stretched sum (take n (drop to s))) where
-  tested : all isPlain (take n (drop to s)) ≡ t .plain
-  tested = sym (ap (λ x. x .plain) e)
-
-  -- they are not all data
-  ended : not (t .plain) ≡ true → length (left s to) < n
-  ended k = front-few isPlain n (drop to s) (tested ∙ not-true (t .plain) k)
-
-  module _ (h : n ≤ length s - to) (k : not (t .plain) ≡ false) where
-    taken : left s to ≡ take n (drop to s) ++ left s (to + n)
-    taken = front-split isPlain n (drop to s) (tested ∙ not-false (t .plain) k) ∙ ap (λ l. take n (drop to s) ++ front isPlain l) (drop-drop n to s)
-
-    shorter : length (left s to) ≡ n + length (left s (to + n))
-    shorter = omega (arith, ap length taken, length-append (take n (drop to s)) (left s (to + n)), length-take n (drop to s), length-drop to s)
-
-    walked-on : to ≤ length s → Walks s from start (to + n) (t .sum)
-    walked-on i = record {
-      within = omega arith;
-      ends = omega (arith, shorter, g .ends);
-      same = rw (ap (λ x. x .sum) e) (sym (sum-append sum (take n (drop to s)) (left s (to + n))) ∙ ap (sumFrom sum) (sym taken) ∙ g .same);
-    }
-
--- sixteen of them
+-- sixteen bytes from a place on
 pub stride-fits : (s : List ℕ) (at : ℕ) → length s < 2 ^ 64 → STRIDE ≤ length s - at → Fits w64 (at + STRIDE)
 stride-fits s at l h = record { fits = omega arith }
 
 pub stride-part : (s : List ℕ) (at start : ℕ) (t : Stretch) → t ≡ stretched start (part at (at + STRIDE) s) → t ≡ stretched start (take STRIDE (drop at s))
-stride-part s at start t e = part-of STRIDE s at start t e
+stride-part s at start t e = let z : at + STRIDE - at ≡ STRIDE = omega arith in rw z at e
 
 module _ {s : List ℕ} {from start to sum : ℕ} (g : Walks s from start to sum) where
   -- fewer than sixteen bytes are left of all
@@ -113,74 +87,42 @@ module _ {s : List ℕ} {from start to sum : ℕ} (g : Walks s from start to sum
   stride-out h = record { walks = g; few = omega (arith, left-within s to) }
 
   module _ (h : STRIDE ≤ length s - to) (t : Stretch) (e : t ≡ stretched sum (take STRIDE (drop to s))) where
+    tested : all isPlain (take STRIDE (drop to s)) ≡ t .plain
+    tested = sym (ap (λ x. x .plain) e)
+
     pub stride-stop : not (t .plain) ≡ true → Near s from start (record { to = to; sum = sum })
-    stride-stop k = record { walks = g; few = ended STRIDE g t e k }
+    stride-stop k = record { walks = g; few = front-few isPlain STRIDE (drop to s) (tested ∙ not-true (t .plain) k) }
+
+    taken : not (t .plain) ≡ false → left s to ≡ take STRIDE (drop to s) ++ left s (to + STRIDE)
+    taken k =
+        front-split isPlain STRIDE (drop to s) (tested ∙ not-false (t .plain) k) ∙ ap (λ l. take STRIDE (drop to s) ++ front isPlain l) (drop-drop STRIDE to s)
+
+    shorter : not (t .plain) ≡ false → length (left s to) ≡ STRIDE + length (left s (to + STRIDE))
+    shorter k = omega (arith, ap length (taken k), length-append (take STRIDE (drop to s)) (left s (to + STRIDE)), length-take STRIDE (drop to s), length-drop to s)
 
     pub stride-next : not (t .plain) ≡ false → Walks s from start (to + STRIDE) (t .sum)
-    stride-next k = walked-on STRIDE g t e h k (g .within)
+    stride-next k = record {
+      within = omega arith;
+      ends = omega (arith, shorter k, g .ends);
+      same = rw (ap (λ x. x .sum) e) (sym (sum-append sum (take STRIDE (drop to s)) (left s (to + STRIDE))) ∙ ap (sumFrom sum) (sym (taken k)) ∙ g .same);
+    }
 
     -- a round takes sixteen bytes of the data: there are as many rounds as whole sixteens
     pub stride-less : not (t .plain) ≡ false → length (left s (to + STRIDE)) / STRIDE < length (left s to) / STRIDE
-    stride-less k = omega (arith, shorter STRIDE g t e h k)
+    stride-less k = omega (arith, shorter k)
 
--- eight of them
-pub half-fits : (s : List ℕ) (at : ℕ) → length s < 2 ^ 64 → HALF ≤ length s - at → Fits w64 (at + HALF)
-half-fits s at l h = record { fits = omega arith }
+module _ (s : List ℕ) (from start : ℕ) (w : Walked) (g : Near s from start w) where
+  pub near-within : w .to ≤ length s
+  near-within = g .walks .within
 
-pub half-part : (s : List ℕ) (at start : ℕ) (t : Stretch) → t ≡ stretched start (part at (at + HALF) s) → t ≡ stretched start (take HALF (drop at s))
-half-part s at start t e = part-of HALF s at start t e
+  pub near-few : length (left s (w .to)) < STRIDE
+  near-few = g .few
 
-module _ (s : List ℕ) (from start : ℕ) (h : from ≤ length s) where
-  pub half-out : length s - from < HALF → Halved s from start (record { to = from; sum = start })
-  half-out k =
-      let z : length (left s from) < HALF = omega (arith, left-within s from) in
-      record { walks = walk-start s from start h; stays = λ e. z; few = λ e. z }
-
-  module _ (k : HALF ≤ length s - from) (t : Stretch) (e : t ≡ stretched start (take HALF (drop from s))) where
-    pub half-stop : not (t .plain) ≡ true → Halved s from start (record { to = from; sum = start })
-    half-stop l =
-        let z : length (left s from) < HALF = ended HALF (walk-start s from start h) t e l in
-        record { walks = walk-start s from start h; stays = λ e. z; few = λ e. z }
-
-    pub half-next : not (t .plain) ≡ false → Halved s from start (record { to = from + HALF; sum = t .sum })
-    half-next l =
-        record {
-          walks = walked-on HALF (walk-start s from start h) t e k l h;
-          stays = λ z. absurd (omega arith);
-          few = λ z. omega (arith, shorter HALF (walk-start s from start h) t e k l);
-        }
-
--- ---- the whole walk
-
-module _ (s : List ℕ) (from start : ℕ) (w : Walked) where
-  pub near-within : Near s from start w → w .to ≤ length s
-  near-within g = g .walks .within
-
-  module _ (g : Halved s from start w) where
-    pub half-within : w .to ≤ length s
-    half-within = g .walks .within
-
-    pub half-few : w .to ≡ from → length (left s from) < HALF
-    half-few e = g .stays e
-
-    pub half-rest : (x : Walked) → x ≡ walked (w .to) (w .sum) (left s (w .to)) → x ≡ walked from start (left s from)
-    half-rest x e = walk-rest (g .walks) x e
-
-  -- sixteens, then eight
-  module _ (g : Near s from start w) (v : Walked) (h : Halved s (w .to) (w .sum) v) where
-    pub all-within : v .to ≤ length s
-    all-within = h .walks .within
-
-    pub all-few : length (left s (v .to)) < HALF
-    all-few = h .few (g .few)
-
-    pub all-rest : (x : Walked) → x ≡ walked (v .to) (v .sum) (left s (v .to)) → x ≡ walked from start (left s from)
-    all-rest x e = walk-rest (g .walks) x (walk-rest (h .walks) x e)
+  pub near-rest : (x : Walked) → x ≡ walked (w .to) (w .sum) (left s (w .to)) → x ≡ walked from start (left s from)
+  near-rest x e = walk-rest (g .walks) x e
 
 pub ruleset walking = (walk-start, walk-next, walk-stop, walk-out, walk-less, needs)
 
 pub ruleset striding = (stride-fits, stride-part, walk-start, stride-out, stride-stop, stride-next, stride-less, needs)
 
-pub ruleset halving = (half-fits, half-part, half-out, half-stop, half-next, needs)
-
-pub ruleset walks = (near-within, half-within, half-few, half-rest, all-within, all-few, all-rest, needs)
+pub ruleset nearing = (near-within, near-few, near-rest, needs)

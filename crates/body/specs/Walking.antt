@@ -37,20 +37,10 @@ pub record Walks (s : List ℕ) (from start to sum : ℕ) : Type 0 where
 abbrev pub STRIDE : ℕ
 STRIDE = 16
 
--- and at the start and the end
-abbrev pub HALF : ℕ
-HALF = 8
-
--- walked so far that fewer than sixteen bytes are left
+-- walked so far that fewer bytes than that are left
 pub record Near (s : List ℕ) (from start : ℕ) (w : Walked) : Type 0 where
   pub walks : Walks s from start (w .to) (w .sum)
   pub few : length (left s (w .to)) < STRIDE
-
--- walked by eight bytes, or by none where fewer are left
-pub record Halved (s : List ℕ) (from start : ℕ) (w : Walked) : Type 0 where
-  pub walks : Walks s from start (w .to) (w .sum)
-  pub stays : w .to ≡ from → length (left s from) < HALF
-  pub few : length (left s from) < STRIDE → length (left s (w .to)) < HALF
 
 -- the bytes from place i up to place j
 abbrev pub part : ℕ → ℕ → List ℕ → List ℕ

@@ -1,10 +1,9 @@
 // The blocks of a body that is known to be good, taken one by one with their sums: for whoever writes them.
 use crate::steps::no_sum;
-use crate::sum::added;
-use crate::sum::opening;
-use crate::walk::walk;
+use crate::sum::checksum;
 use octets::bytes::ETX;
 use octets::slices::byte_at;
+use octets::slices::plain_run;
 ghost use mathlib.Core.Path.{_≡_};
 ghost use Prim.Native.Nat.{_+_, _≤_};
 ghost use lib.ListN.{length};
@@ -38,11 +37,12 @@ pub fn take_at(s: &[u8], at: usize) -> Taken
     ensures { λ r. ⌜ r ≡ takenAt (now (s .entry)) at ⌝ }
 {
     let command = byte_at(s, at + 1);
-    let text = walk(s, at + 2, opening(command));
+    let from = at + 2;
+    let to = plain_run(s, from);
     Taken {
         command,
-        to: text.to,
-        sum: added(text.sum, ETX),
-        next: behind_data(s, text.to),
+        to,
+        sum: checksum(command, &s[from..to]),
+        next: behind_data(s, to),
     }
 }

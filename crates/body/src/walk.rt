@@ -1,7 +1,6 @@
 // A block's data, walked once: "The smallest boards read each block once for its end and again for its sum. Do both in one pass."
-// Many bytes are taken at a time as long as all of them are data: eight, then sixteen again and again, then eight, and the fewer than eight
-// that are left one by one. So a walk looks at each byte of the data once, and once more at the sixteen and the eight bytes in which they
-// end; the last look is at the byte that ends them. Data of fewer than eight bytes are not looked at by sixteens at all.
+// Sixteen bytes are taken at a time as long as all of them are data, and the fewer than sixteen that are left one by one. So a walk looks at
+// each byte of the data once, and once more at the sixteen bytes in which they end; the last look is at the byte that ends them.
 use crate::sum::Stretch;
 use crate::sum::add_up;
 use crate::sum::added;
@@ -9,13 +8,10 @@ use octets::bytes::PLAIN;
 ghost use mathlib.Core.Path.{_≡_};
 ghost use Prim.Native.Nat.{_-_, _<_, _≤_};
 ghost use lib.ListN.{length, take, drop};
-ghost use Rattle.body.specs.Walking.{STRIDE, HALF, stretched, walked, left, Near, Halved};
+ghost use Rattle.body.specs.Walking.{STRIDE, stretched, walked, left, Near};
 
 // How many bytes are taken at a time.
 const STRIDE: usize = 16;
-
-// And at the start and the end.
-const HALF: usize = 8;
 
 // As far as the data were walked: the place, and a sum with each of their bytes up to it.
 pub struct Walked {
@@ -49,42 +45,10 @@ fn by_strides(s: &[u8], from: usize, start: u16) -> Walked
     Walked { to, sum }
 }
 
-// Eight bytes from a place on, tested and added up at once.
-fn half_stride(s: &[u8], at: usize, start: u16) -> Stretch
-    requires { ⌜ HALF ≤ length (now s) - at ⌝ }
-    ensures { λ r. ⌜ r ≡ stretched start (take HALF (drop at (now (s .entry)))) ⌝ }
-{
-    add_up(&s[at..at + HALF], start)
-}
-
-// The data as far as eight bytes go, where all of these are data; else as far as they were.
-fn by_half(s: &[u8], from: usize, start: u16) -> Walked
-    requires { ⌜ from ≤ length (now s) ⌝ }
-    ensures { λ r. ⌜ Halved (now (s .entry)) from start r ⌝ }
-{
-    if s.len() - from < HALF {
-        return Walked {
-            to: from,
-            sum: start,
-        };
-    }
-    let taken = half_stride(s, from, start);
-    if !taken.plain {
-        return Walked {
-            to: from,
-            sum: start,
-        };
-    }
-    Walked {
-        to: from + HALF,
-        sum: taken.sum,
-    }
-}
-
-// The data that are left, byte by byte: fewer than eight, so this loop goes round no more often.
+// The data that are left, byte by byte: fewer than sixteen, so this loop goes round no more often.
 fn by_bytes(s: &[u8], from: usize, start: u16) -> Walked
     requires { ⌜ from ≤ length (now s) ⌝ }
-    requires { ⌜ length (left (now s) from) < HALF ⌝ }
+    requires { ⌜ length (left (now s) from) < STRIDE ⌝ }
     ensures { λ r. ⌜ r ≡ walked from start (left (now (s .entry)) from) ⌝ }
 {
     let mut to = from;
@@ -100,25 +64,12 @@ fn by_bytes(s: &[u8], from: usize, start: u16) -> Walked
     Walked { to, sum }
 }
 
-// The data from a place on, by sixteens first.
-fn by_all(s: &[u8], from: usize, start: u16) -> Walked
-    requires { ⌜ from ≤ length (now s) ⌝ }
-    ensures { λ r. ⌜ r ≡ walked from start (left (now (s .entry)) from) ⌝ }
-{
-    let near = by_strides(s, from, start);
-    let half = by_half(s, near.to, near.sum);
-    by_bytes(s, half.to, half.sum)
-}
-
 // The bytes 05H to FFH from a place on: where they end, and a sum with each of them added to it. A block that has no checksum is added up
 // too, for nothing: that it has none is seen behind its end.
 pub fn walk(s: &[u8], from: usize, start: u16) -> Walked
     requires { ⌜ from ≤ length (now s) ⌝ }
     ensures { λ r. ⌜ r ≡ walked from start (left (now (s .entry)) from) ⌝ }
 {
-    let half = by_half(s, from, start);
-    if half.to == from {
-        return by_bytes(s, from, start);
-    }
-    by_all(s, half.to, half.sum)
+    let near = by_strides(s, from, start);
+    by_bytes(s, near.to, near.sum)
 }

@@ -8,17 +8,23 @@ add-byte-at c = search takings
 byte-at-requires : tie.Need-byte-at-requires
 byte-at-requires c κs = search takings
 
-add-walk : tie.Need-add-walk
-add-walk c = search takings
+add-from : tie.Need-add-from
+add-from c = search takings
 
-opening-requires : tie.Need-opening-requires
-opening-requires c κs = search takings
+plain-run-requires : tie.Need-plain-run-requires
+plain-run-requires c κs = search takings
 
-walk-requires : tie.Need-walk-requires
-walk-requires c κs = search takings
+sub-checksum : tie.Need-sub-checksum
+sub-checksum c = search takings
 
-added-requires : tie.Need-added-requires
-added-requires c κs = search takings
+part-checksum-start : tie.Need-part-checksum-start
+part-checksum-start c = search takings
+
+part-checksum-end : tie.Need-part-checksum-end
+part-checksum-end c = search takings
+
+checksum-requires : tie.Need-checksum-requires
+checksum-requires c κs = search takings
 
 behind-data-requires : tie.Need-behind-data-requires
 behind-data-requires c κs = search takings
@@ -32,9 +38,11 @@ take-at-spec =
     (tie.spec
     add-byte-at
     byte-at-requires
-    add-walk
-    opening-requires
-    walk-requires
-    added-requires
+    add-from
+    plain-run-requires
+    sub-checksum
+    part-checksum-start
+    part-checksum-end
+    checksum-requires
     behind-data-requires
     returns)
