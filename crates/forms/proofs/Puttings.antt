@@ -2,13 +2,13 @@
 use mathlib.Core.Path.{_≡_, refl, sym, ap, _∙_}
 use mathlib.Core.Bool.{Bool, true, false}
 use mathlib.Core.List.{List, [], _∷_, _++_}
-use Prim.Native.Nat.{ℕ, suc, _+_, _/_, _%_, _<_, _≤_}
+use Prim.Native.Nat.{ℕ, _+_, _/_, _%_, _<_, _≤_}
 use native.Mathlib.Numerals.{add-one}
 use native.Mathlib.Omega.{arith}
 use borrow.Author.Needs.{needs}
 use borrow.Author.Tests.{ne-eqb, le-leb, lt-leb}
-use lib.ListN.{length, take, drop, set, length-append, take-append-drop}
-use lib.Seq.{sets, sets-eq, length-sets, take-suc, take-all}
+use lib.ListN.{length, take, drop, length-append, take-append-drop}
+use lib.Seq.{length-sets, take-suc, take-all}
 use Rattle.octets.specs.Choice.{_!_, _is_, _isn't_}
 use Rattle.octets.specs.Buffer.{zeros, splice}
 use Rattle.octets.proofs.Buffers.{splice-sets, sets-append}
@@ -19,7 +19,6 @@ use Rattle.octets.proofs.Spots.{drop-on}
 use Rattle.header.specs.Capitals.{headerCapitals}
 use Rattle.header.proofs.InCapitals.{header-long}
 use Rattle.body.specs.Sum.{checksum}
-use Rattle.body.proofs.Plain.{checksum-small}
 use Rattle.forms.specs.Forms.{isItself, escapeOf, nuls}
 use Rattle.forms.specs.Pieces.{Takes, Puts, inHex2, encode, parting, ending, piece, heading}
 use Rattle.forms.proofs.PieceLaws.{encode-append, encode-none, encode-other, encode-itself, encode-escaped, encode-sum, hex4-halves}

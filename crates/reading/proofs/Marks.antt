@@ -21,7 +21,6 @@ use Rattle.reading.specs.Translation.{Translation, untranslated, transla
 use Rattle.reading.specs.Places.{bytesOf}
 use Rattle.reading.specs.Walking.{mayStand, allStand, isMark, counted, isWhole}
 use Rattle.reading.proofs.Translating.{whole-push, bytes-push}
-use Rattle.reading.specs.declared.translation.Counted.{Counted}
 use Rattle.reading.specs.declared.translation.Counted.the-variants.{Bytes, Faulty as NoCount}
 
 -- ---- a digit behind "_"

@@ -1,6 +1,6 @@
 -- What one walk over the blocks of a frame tells of the result, for the reckoning of its length.
 use mathlib.Core.Path.{_≡_, refl, sym, ap, _∙_}
-use mathlib.Core.Bool.{Bool, true, false, _||_}
+use mathlib.Core.Bool.{true, _||_}
 use mathlib.Core.List.{List, [], _∷_, _++_}
 use Prim.Native.Nat.{ℕ, _+_, _-_, _≤_}
 use mir.Syntax.{w64}
@@ -10,7 +10,7 @@ use borrow.Author.Needs.{needs}
 use borrow.Author.Tests.{ne-eqb}
 use lib.ListN.{length, take, drop, length-take, length-drop, length-append}
 use lib.Seq.{take-all}
-use Rattle.octets.specs.Choice.{if_then_else_, _is_, _isn't_, _!_}
+use Rattle.octets.specs.Choice.{_is_, _isn't_, _!_}
 use Rattle.octets.specs.Bytes.{STX, ETX, EOT, BLOCKS}
 use Rattle.octets.proofs.Counts.{count-few}
 use Rattle.octets.proofs.Tests.{choice, by-test, never}
@@ -24,7 +24,7 @@ use Rattle.body.specs.declared.judging.Survey.{Survey}
 use Rattle.body.proofs.Plain.{Plain}
 use Rattle.body.proofs.Surveys.{survey-count, survey-right, survey-read, survey-bytes}
 use Rattle.body.proofs.Takings.{Stand, stand-at}
-use Rattle.forms.specs.Lengths.{isEscaped, escapes, blockEscapes}
+use Rattle.forms.specs.Lengths.{isEscaped, escapes}
 use Rattle.forms.proofs.Escapes.{escapes-body}
 use Rattle.forms.proofs.LengthLaws.{header-itself, text-append, escapes-append}
 use Rattle.writing.specs.Sources.{Source, Parted, Headed, Paired, Reckoned, escapesIn, fitted, answered}

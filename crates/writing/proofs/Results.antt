@@ -1,6 +1,6 @@
 -- What the calls put as a whole is the form; its number, its length, and what the output buffer is left with.
 use mathlib.Core.Path.{_≡_, refl, sym, ap, ap₂, _∙_}
-use mathlib.Core.Bool.{Bool, true, false, _||_}
+use mathlib.Core.Bool.{true, false, _||_}
 use mathlib.Core.List.{List, [], _∷_, _++_, append-nil, append-assoc}
 use Prim.Native.Nat.{ℕ, _+_, _≤_}
 use native.Mathlib.Nat.{zero-add}
@@ -26,7 +26,7 @@ use Rattle.forms.specs.Pieces.{Takes, Puts, encode, piece, pieces, heading, hea
 use Rattle.forms.proofs.LengthLaws.{form-length, render-length}
 use Rattle.forms.proofs.PieceLaws.{pieces-append, render-headed}
 use Rattle.forms.proofs.Puttings.{puts-as, joined, takes-front, takes-behind}
-use Rattle.writing.specs.Output.{isOver, output, writtenAs, delivered, putNumber, put}
+use Rattle.writing.specs.Output.{isOver, output, writtenAs, putNumber, put}
 use Rattle.writing.specs.Sources.{Headed, Paired, Puttable, escapesIn, fitted, answered}
 use Rattle.writing.specs.declared.Written.{Written}
 

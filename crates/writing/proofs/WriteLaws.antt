@@ -9,7 +9,7 @@ use borrow.Author.Tests.{lt-ltb, not-false}
 use lib.Dec.{lit≤}
 use lib.ListN.{length}
 use Rattle.octets.specs.Choice.{if_then_else_, _is_, all}
-use Rattle.octets.specs.Bytes.{ETX, TRANSLATED, isPlain}
+use Rattle.octets.specs.Bytes.{TRANSLATED, isPlain}
 use Rattle.octets.specs.Counts.{count}
 use Rattle.octets.proofs.Counts.{count-few}
 use Rattle.octets.proofs.Tests.{choice, by-test}
@@ -18,10 +18,9 @@ use Rattle.header.specs.Header.{isHeader}
 use Rattle.header.specs.Capitals.{headerCapitals}
 use Rattle.header.proofs.InCapitals.{header-long}
 use Rattle.header.proofs.Texts.{header-length}
-use Rattle.body.specs.Sum.{checksum}
-use Rattle.body.specs.Body.{Block, block}
+use Rattle.body.specs.Body.{block}
 use Rattle.body.specs.Surveying.{textBytes}
-use Rattle.body.specs.Walking.{opening, stretched}
+use Rattle.body.specs.Walking.{stretched}
 use Rattle.body.specs.declared.sum.Stretch.{Stretch}
 use Rattle.body.proofs.Plain.{Plain}
 use Rattle.body.proofs.Sums.{sum-stretch}
@@ -46,10 +45,7 @@ module _ (c : ℕ) (d : List ℕ) where
   unfolding escapesIn
   written-escapes form t a b e f = rw (t, e, f) single-escapes
 
-  pub escapes-few-of : length d ≤ TRANSLATED → (a b : ℕ) → a ≡ escapes (c ∷ []) → b ≡ escapes d → a + b ≤ 8193
-  escapes-few-of h a b e f = omega (arith, count-few isEscaped (c ∷ []), count-few isEscaped d)
-
-pub ruleset escaped = (escapes-other, written-escapes, escapes-few-of, needs)
+pub ruleset escaped = (escapes-other, written-escapes, needs)
 
 -- ---- numbers and lengths
 

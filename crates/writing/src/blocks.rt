@@ -12,7 +12,7 @@ ghost use Rattle.octets.specs.Bytes.{TRANSLATED};
 ghost use Rattle.header.specs.Capitals.{headerCapitals};
 ghost use Rattle.body.specs.Walking.{part, bodyAt, blocksAt};
 ghost use Rattle.forms.specs.Pieces.{Takes, Puts, encode, pieces, headed};
-ghost use Rattle.writing.specs.Sources.{Source, Puttable, Headed, escapesIn};
+ghost use Rattle.writing.specs.Sources.{Puttable, Headed, escapesIn};
 
 // The escapes among the blocks: form 3 alone needs their number. What else stands in a good body are control bytes, which are no data,
 // and digits, which stand for themselves: so all of it is looked at in a row.
