@@ -7,7 +7,7 @@ use native.Mathlib.Omega.{arith}
 use borrow.Author.Needs.{needs}
 use lib.ListN.{length, drop, length-take, length-drop}
 use Rattle.octets.specs.Bytes.{BLOCKS}
-use Rattle.octets.proofs.Tests.{and-assoc, and-some}
+use Rattle.octets.proofs.Tests.{or-none, and-assoc, and-some}
 use Rattle.body.specs.Body.{Block, Step, stray, more, last, Body, badBody, body, blockAt, prepend, blocks}
 use Rattle.body.specs.Body.{isRead, readNotLast, hasRead, allRight}
 use Rattle.body.specs.Steps.{placed, foundAt}
@@ -132,15 +132,11 @@ or-assoc : (a b c : Bool) → ((a || b) || c) ≡ (a || (b || c))
 or-assoc true b c = refl
 or-assoc false b c = refl
 
-or-false : (a : Bool) → (a || false) ≡ a
-or-false true = refl
-or-false false = refl
-
 -- of blocks behind those that were seen before: a read that was not last was met early, or the block before them is a read
 through-number : (bs : List Block) (t : Survey) (early before : Bool) → t .number ≡ lastNumber early → t .read ≡ (early || before)
     → through t bs .number ≡ lastNumber (early || readNotLast before bs)
 unfolding through readNotLast
-through-number [] t early before v e = v ∙ ap lastNumber (sym (or-false early))
+through-number [] t early before v e = v ∙ ap lastNumber (sym (or-none early))
 through-number (b ∷ bs) t early before v e =
     let c : Bool = isRead (b .command) in
     through-number bs (further t (b .command) (b .right) (length (b .text))) (early || before) c (ap lastNumber e) (ap (λ x. x || c) e)
@@ -159,7 +155,7 @@ through-right (b ∷ bs) t =
 
 through-read : (bs : List Block) (t : Survey) → through t bs .read ≡ (t .read || hasRead bs)
 unfolding through hasRead
-through-read [] t = sym (or-false (t .read))
+through-read [] t = sym (or-none (t .read))
 through-read (b ∷ bs) t =
     through-read bs (further t (b .command) (b .right) (length (b .text))) ∙ or-assoc (t .read) (isRead (b .command)) (hasRead bs)
 

@@ -100,12 +100,11 @@ module _ (s : List ℕ) (at : ℕ) (p : isPlain (s ! (at + 1)) ≡ true) where
   unfolding takenAt isPlain
   next-block r =
       let w : at + 1 < length s = there s (at + 1) (omega (arith, leb-true 5 (s ! (at + 1)) p)) in
-      let z : to - (at + 2) ≡ length text = omega arith in
       record {
         command = refl;
         ordered = omega arith;
         inside = omega (arith, left-within s (at + 2));
-        text = rw z (take-front isPlain (drop (at + 2) s));
+        text = take-text s at to refl;
         sum = refl;
       }
 
