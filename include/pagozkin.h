@@ -5,7 +5,9 @@
  * - a pointer is valid for as many bytes as the length behind it says (a length of 0 asks nothing of its pointer);
  * - a buffer that is written (a pointer without const) shares no byte with another buffer of the call;
  * - nothing else writes the buffers while the call runs, and the stack has room for it (PAGOZKIN_STACK_..).
- * Nothing more: frames, boards, numbers and lengths may be anything, and each call does its own checking.
+ * Nothing more: frames, boards, numbers and lengths may be anything, and each call does its own checking. It checks what it is handed: C
+ * converts a number to the type of a parameter or field without a word; with the usual compilers 65537 handed over as int16_t months is 1,
+ * 265 as int8_t offset is 9 and 257 as uint8_t form is 1. Test a number that may not fit before you hand it over (-Wconversion warns).
  * In frames hex digits may be small letters, a to f: in checksums, escapes, header addresses, E "7" and SIZE and QQQQ of E "$", and
  * nowhere else. What the calls store, reply and write is in capitals; a block's data are copied as received.
  * No call keeps anything for the next one or takes memory besides the stack, so calls on different buffers may run at one time.
@@ -134,13 +136,8 @@ enum {
 
 /* "Settings travel as one record, handed in and handed back". The library keeps no clock: between runs the firmware's clock writes
  * hour, minute, month, day and year here, these alone and so that time and date exist; else the next run answers 1.
- * Settings that were kept by version 1.0.0 may hold a date such as 31 February. Every run answers 1 then, one that would set the date
- * too: ask pagozkin_is_sound at the start, and write a date that exists here. Settings of any version 1 have no unused amount: write
- * memory's length less, for each file, PAGOZKIN_RECORD and its SIZE. Settings of versions 1 and 2 have no places: write
- * PAGOZKIN_NOWHERE to all of them, and then for each file, at its label less PAGOZKIN_FIRST_LABEL, where its record begins in memory.
- * Settings of versions 1 to 3 have no temperature offset: write 0, or an offset from -9 to 9. Settings of versions 1 to 4 have no
- * serial error status register (version 4 has a byte of no meaning in its place): write PAGOZKIN_NO_ERRORS.
- * From then on the library keeps amount and places true: leave them alone, and the register to pagozkin_port_errors. */
+ * Settings that an older version kept lack fields: docs/MIGRATING.md says what to write there, once.
+ * The library keeps unused and places true: leave them alone, and errors to pagozkin_port_errors. */
 typedef struct pagozkin_settings {
     uint8_t hour;    /* 0 to 23 */
     uint8_t minute;  /* 0 to 59 */

@@ -1,4 +1,4 @@
-/* How often each call looks at a byte of a block's data, counted as it runs and held to the table of docs/DECISIONS.md, "Cost".
+/* How often each call looks at a byte of a block's data, counted as it runs and held to the table of docs/COST.md.
  * It is linked with the library of tools/counted, which calls one of the functions __sanitizer_cov_load.. before each load. */
 #include "digits.h"
 #include "expect.h"
@@ -238,6 +238,6 @@ int main(void)
         join(&summed, &plain, form, besides);
     }
     if (faults == 0)
-        printf("looks: each call looks at a block's data as often as docs/DECISIONS.md says\n");
+        printf("looks: each call looks at a block's data as often as docs/COST.md says\n");
     return faults != 0;
 }

@@ -9,18 +9,18 @@ use borrow.Author.Tests.{eq-eqb, ne-eqb, eqb-true, eqb-false, leb-true, not-true
 use lib.ListN.{length, drop, set, length-set, getD-replicate, drop-of-length-le}
 use lib.Seq.{getD-set-same, getD-set-other, ext-getD}
 use Rattle.octets.specs.Choice.{if_then_else_, _is_, _≤?_, between, _!_, among}
-use Rattle.octets.specs.Counts.{count}
+use Rattle.octets.specs.InnerCounts.{count}
 use Rattle.octets.proofs.Spots.{drop-on}
 use Rattle.octets.proofs.Tests.{by-test, compare, never, split, or-in, or-out-left, or-out-right, and-both, suc-less-one}
 use Rattle.board.specs.Files.{File, sizeOf, filesOf, used, labels, distinct, isAt, find}
 use Rattle.board.specs.Soundness.{isLabel, isRecord, holdsFiles}
 use Rattle.board.specs.Index.{FIRST-LABEL, LAST-LABEL, ENTRIES, NOWHERE, entry, namesEach, namesNoOther, isIndex, noEntries, entered, ofType, lookUp}
-use Rattle.board.specs.Noted.{isPlace, entries, Within}
+use Rattle.board.specs.InnerNoted.{isPlace, entries, Within}
 use Rattle.board.specs.declared.Found.the-variants.{Nothing}
 use Rattle.board.proofs.Checks.{at-label, at-other}
 use Rattle.board.proofs.Layouts.{AllValid}
 use Rattle.board.proofs.Walking.{next, Standing, files-step, head-label, room, stand-start, stand-next, find-step, body-size, file-inside}
-use Rattle.board.proofs.Entries.{entry-there, entry-label, entry-nowhere}
+use Rattle.board.proofs.IndexLaws.{entry-there, entry-label, entry-nowhere}
 
 -- ---- the files' labels
 

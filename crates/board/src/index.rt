@@ -7,7 +7,7 @@ ghost use Prim.Native.Nat.{_+_, _-_, _<_, _≤_};
 ghost use lib.ListN.{length, drop};
 ghost use Rattle.octets.specs.Choice.{_is_, _!_};
 ghost use Rattle.board.specs.Index.{entry, ofType, lookUp};
-ghost use Rattle.board.specs.Noted.{entries, Within};
+ghost use Rattle.board.specs.InnerNoted.{entries, Within};
 
 // "for each label 20H to 7EH"
 const FIRST_LABEL: u8 = 0x20;

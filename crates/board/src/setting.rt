@@ -137,9 +137,9 @@ fn is_speaker(speaker: u8) -> bool
     speaker == OFF || speaker == ON
 }
 
-// Of the settings that requests added, those with a range of their own: request 10, a register has its fixed bits; request 9, an offset
-// is -9 to 9.
-fn added_in_range(s: Settings) -> bool
+// Request 10: a register has its fixed bits; request 9: an offset is -9 to 9. By themselves, since the search goes through five tests in a
+// row and not through seven.
+fn errors_and_offset_in_range(s: Settings) -> bool
     ensures { λ r. ⌜ r ≡ (isRegister (s .errors) && isOffset (s .offset)) ⌝ }
 {
     if !is_register(s.errors) {
@@ -167,5 +167,5 @@ pub fn in_range(s: Settings) -> bool
     if !is_own_type(s.own) {
         return false;
     }
-    added_in_range(s)
+    errors_and_offset_in_range(s)
 }

@@ -28,7 +28,7 @@ ghost use Rattle.octets.specs.Choice.{if_then_else_, _is_, _≤?_, between};
 ghost use Rattle.board.specs.Files.{STRING};
 ghost use Rattle.board.specs.Index.{entry};
 ghost use Rattle.board.specs.Soundness.{isLabel, isKind, isProtection, isStartCode, isStopCode, isCodes, isRecord, isContent, isMemory, sound};
-ghost use Rattle.board.specs.Noted.{sizeOrNone, recordOrNone, lengthAt, entries, holdsNoted, soundNoted};
+ghost use Rattle.board.specs.InnerNoted.{sizeOrNone, recordOrNone, lengthAt, entries, holdsNoted, soundNoted};
 
 // "P: "U" or "L""
 const UNLOCKED: u8 = 0x55;

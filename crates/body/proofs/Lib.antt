@@ -1,11 +1,10 @@
 -- Laws of the definitions.
 pub mod Plain
-pub mod Taken
-pub mod Sums
-pub mod Walks
-pub mod StepLaws
-pub mod BlockLoops
-pub mod Verdicts
-pub mod Surveys
-pub mod Takings
+pub mod WellFormed
+pub mod SumLaws
+pub mod WalkLaws
+pub mod StepsLaws
+pub mod FoundBlocks
+pub mod SurveyingLaws
+pub mod TakingLaws
 pub mod Unique

@@ -3,6 +3,6 @@ pub mod Sum
 pub mod Body
 pub mod Steps
 pub mod Readers
-pub mod Walking
-pub mod Surveying
-pub mod Taking
+pub mod InnerWalking
+pub mod InnerSurveying
+pub mod InnerTaking

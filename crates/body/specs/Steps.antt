@@ -1,8 +1,10 @@
 -- Where a block stands in the bytes of a frame: what a step over the blocks answers.
 use Prim.Native.Nat.{ℕ, _+_, _-_}
-use mathlib.Core.List.{List}
+use mathlib.Core.Bool.{Bool, true, false}
+use mathlib.Core.List.{List, []}
 use lib.ListN.{length, drop}
-use Rattle.body.specs.Body.{Step, stray, more, last, blockAt}
+use Rattle.octets.specs.Bytes.{BLOCKS}
+use Rattle.body.specs.Body.{Block, Step, stray, more, last, Body, badBody, body, blockAt, blocks}
 use Rattle.body.specs.declared.BlockStep.{BlockStep}
 use Rattle.body.specs.declared.BlockStep.the-variants.{Stray, More, Last}
 
@@ -15,3 +17,21 @@ placed s at (last b) = Last (b .command) (at + 2) (at + 2 + length (b .text)) (b
 -- what stands at a place of s
 unfoldable pub foundAt : List ℕ → ℕ → BlockStep
 foundAt s at = placed s at (blockAt (drop at s))
+
+-- the blocks of a body, none of a bad one
+unfoldable pub blocksIn : Body → List Block
+blocksIn badBody = []
+blocksIn (body bs) = bs
+
+-- a good body
+unfoldable pub isBody : Body → Bool
+isBody badBody = false
+isBody (body bs) = true
+
+-- a good body stands at a place of s
+unfoldable pub bodyAt : List ℕ → ℕ → Bool
+bodyAt s from = isBody (blocks BLOCKS (drop from s))
+
+-- its blocks
+unfoldable pub blocksAt : List ℕ → ℕ → List Block
+blocksAt s from = blocksIn (blocks BLOCKS (drop from s))

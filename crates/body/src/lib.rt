@@ -1,8 +1,8 @@
 // A frame's body: blocks and their sums. The definitions are in specs/.
-pub mod judging;
 pub mod reader;
 pub mod steps;
 pub mod sum;
+pub mod surveying;
 pub mod taking;
 pub mod walk;
 

@@ -14,12 +14,12 @@ ghost use mathlib.Core.Path.{_≡_};
 ghost use mathlib.Core.Bool.{_||_};
 ghost use Prim.Native.Nat.{_+_, _≤_};
 ghost use lib.ListN.{drop};
-ghost use Rattle.octets.specs.Choice.{_is_};
+ghost use Rattle.octets.specs.Choice.{_is_, part};
 ghost use Rattle.octets.specs.Bytes.{STX, EOT};
 ghost use Rattle.body.specs.Sum.{checksum};
 ghost use Rattle.body.specs.Body.{block, isEnd, follow, afterEtx, afterData};
 ghost use Rattle.body.specs.Steps.{placed, foundAt};
-ghost use Rattle.body.specs.Walking.{part, Inside};
+ghost use Rattle.body.specs.InnerWalking.{Inside};
 
 // "EOT as the very last byte"
 fn is_end(s: &[u8], at: usize) -> bool

@@ -5,7 +5,7 @@ use octets::bytes::STX;
 ghost use mathlib.Core.Path.{_≡_};
 ghost use Prim.Native.Nat.{_+_, _%_};
 ghost use Rattle.body.specs.Sum.{checksum};
-ghost use Rattle.body.specs.Walking.{opening, stretched};
+ghost use Rattle.body.specs.InnerWalking.{opening, stretched};
 
 // A byte, to be added up.
 fn widened(x: u8) -> u16

@@ -7,7 +7,7 @@ use octets::slices::plain_run;
 ghost use mathlib.Core.Path.{_≡_};
 ghost use Prim.Native.Nat.{_+_, _≤_};
 ghost use lib.ListN.{length};
-ghost use Rattle.body.specs.Taking.{behindData, takenAt};
+ghost use Rattle.body.specs.InnerTaking.{behindData, takenAt};
 
 // A block's command byte, where its data end, the checksum of both, and where what stands behind it starts: the next block, if there is one.
 pub struct Taken {

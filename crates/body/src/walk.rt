@@ -8,7 +8,7 @@ use octets::bytes::PLAIN;
 ghost use mathlib.Core.Path.{_≡_};
 ghost use Prim.Native.Nat.{_-_, _<_, _≤_};
 ghost use lib.ListN.{length, take, drop};
-ghost use Rattle.body.specs.Walking.{STRIDE, stretched, walked, left, Near};
+ghost use Rattle.body.specs.InnerWalking.{STRIDE, stretched, walked, left, Near};
 
 // How many bytes are taken at a time.
 const STRIDE: usize = 16;

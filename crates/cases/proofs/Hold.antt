@@ -12,7 +12,7 @@ use Rattle.sign.proofs.Alike.{capitals-alike}
 use Rattle.sheet.specs.Sheet.{Every, bytes, start, inTurn, onFresh}
 use Rattle.sheet.proofs.Computing.{base}
 use Rattle.sheet.proofs.Examples.{_&_}
-use Rattle.cases.specs.Numbers.{numberOf, blockNumber, holds, allHold, times, numbersTable}
+use Rattle.cases.specs.Numbers.{numberOf, blockNumber, holds, allHold, times, recordsFrom, numbersTable}
 use Rattle.cases.specs.Dates.{eachWay, datesTable}
 use Rattle.cases.specs.Unused.{wrongOn, unusedTable}
 use Rattle.cases.specs.Index.{misplaced, indexTable}
@@ -23,7 +23,7 @@ use Rattle.cases.specs.SmallLetters.{Shows as ShowsLetter, lettersTable,
 use Rattle.cases.specs.Witnesses.{Shows, witnesses}
 
 pub numbers : allHold numbersTable ≡ true
-unfolding numberOf blockNumber holds allHold times numbersTable bytes start inTurn onFresh base
+unfolding numberOf blockNumber holds allHold times recordsFrom numbersTable bytes start inTurn onFresh base
 numbers = refl
 
 pub dates : allHold datesTable ≡ true

@@ -14,19 +14,25 @@ use Rattle.cases.specs.Numbers.{Call, running, Row, row, E'S}
 abbrev pub placing : Settings → ℕ → ℕ → Settings
 placing s label place = withFiles s (s .files) (s .unused) (set (s .places) (label - FIRST-LABEL) place)
 
--- a frame on the board that a run left, but with this place for a label, and with this byte at a place of memory
-abbrev pub indexing : Outcome → ℕ → ℕ → ℕ → ℕ → Call
-indexing x label place at byte = running (placing (x .answer .settings) label place) (set (x .memory) at byte) (length (x .memory) + 64) E'S
+-- a frame on the board that a run left, but with this place for a label
+abbrev pub indexing : Outcome → ℕ → ℕ → Call
+indexing x label place = running (placing (x .answer .settings) label place) (x .memory) (length (x .memory) + 64) E'S
 
--- a fresh board of 512 bytes after frames, which starts with "A": places of a label that are wrong on it, and the one that is right
+-- a fresh board of 512 bytes after frames: places of a label that are wrong on it, and the one that is right
 unfoldable pub misplaced : List String → ℕ → List ℕ → ℕ → List Row
 misplaced fs label [] right = []
 misplaced fs label (p ∷ ps) right =
-    row 1 (indexing (onFresh 512 fs) label p 0 0x41) (indexing (onFresh 512 fs) label right 0 0x41) ∷ misplaced fs label ps right
+    row 1 (indexing (onFresh 512 fs) label p) (indexing (onFresh 512 fs) label right) ∷ misplaced fs label ps right
 
 -- the files "A" at place 0 and "S" at place 27, with 16 and 8 bytes of content; what is behind them starts at place 46
 abbrev pub two : List String
 two = "_01Z00_02E$AAU0010FF00SBL00080000_04" ∷ []
+
+-- a frame on that board, its second file under another label: "S" has no entry, the new label has that file's, and then "A" has this one
+abbrev pub relabelled : Outcome → ℕ → ℕ → Call
+relabelled x label place =
+    running (placing (placing (placing (x .answer .settings) 0x53 NOWHERE) label 27) 0x41 place) (set (x .memory) 27 label)
+    (length (x .memory) + 64) E'S
 
 -- "1 when it is wrong"
 unfoldable pub indexTable : List Row
@@ -40,7 +46,7 @@ indexTable =
     ++ misplaced two 0x30 (0 ∷ []) NOWHERE
     ++ misplaced two 0x3F (27 ∷ []) NOWHERE
     ++ misplaced two 0x42 (0 ∷ 27 ∷ 46 ∷ 512 ∷ []) NOWHERE
-    -- two files of the label "A", of two types, whichever of them the entry names; beside them the second file is "S"
-    ++ row 1 (indexing (onFresh 512 two) 0x41 0 27 0x41) (indexing (onFresh 512 two) 0x41 0 27 0x53)
-    ∷ row 1 (indexing (onFresh 512 two) 0x41 27 27 0x41) (indexing (onFresh 512 two) 0x53 27 27 0x53)
+    -- two files of the label "A", of two types, whichever of them the entry names; beside them the second file is "B"
+    ++ row 1 (relabelled (onFresh 512 two) 0x41 0) (relabelled (onFresh 512 two) 0x42 0)
+    ∷ row 1 (relabelled (onFresh 512 two) 0x41 27) (relabelled (onFresh 512 two) 0x42 0)
     ∷ []

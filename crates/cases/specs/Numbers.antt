@@ -79,9 +79,18 @@ long n = bytes "\0\0\0\0\0\u{1}Z00\u{2}AA" ++ (replicate n 0x20 ++ bytes "\u{3}0
 abbrev pub wide : ℕ → List ℕ
 wide n = bytes "_01Z00_02AA" ++ (replicate n 0x20 ++ bytes "_04")
 
--- such a frame, each space as an escape: 14 characters and three for each
+-- such a frame, every byte of it as an escape: 8 and the message, three characters for each
 abbrev pub escaped : ℕ → List ℕ
-escaped n = bytes "_01Z00_02AA" ++ (times n (bytes "_20") ++ bytes "_04")
+escaped n = bytes "_01_5A_30_30_02_41_41" ++ (times n (bytes "_20") ++ bytes "_04")
+
+-- n records of a "$" list, TEXT of one byte each, their labels one after another
+unfoldable pub recordsFrom : ℕ → ℕ → List ℕ
+recordsFrom zero label = []
+recordsFrom (suc n) label = label ∷ bytes "AU0001FF00" ++ recordsFrom n (label + 1)
+
+-- a plain frame that sets 63 files "@" to "~" and n from "1" on
+abbrev pub filing : ℕ → List ℕ
+filing n = bytes "\0\0\0\0\0\u{1}Z00\u{2}E$" ++ (recordsFrom 63 0x40 ++ (recordsFrom n 0x31 ++ bytes "\u{4}"))
 
 abbrev pub E'S : List ℕ
 E'S = bytes "_01Z00_02E'S_04"
@@ -97,7 +106,8 @@ numbersTable =
     -- 3 "input empty, over 8,192 bytes standard or 24,576 printable, or over 8,192 translated"
     ∷ row 3 (frames 64 ([] ∷ [])) (frames 64 (E'S ∷ []))
     ∷ row 3 (frames 64 (long 8175 ∷ [])) (frames 64 (long 8174 ∷ []))
-    ∷ row 3 (frames 64 (escaped 8188 ∷ [])) (frames 64 (escaped 8184 ∷ []))
+    -- 24,577 characters, of which the last is a bad escape, and without it
+    ∷ row 3 (frames 64 ((escaped 8184 ++ bytes "_") ∷ [])) (frames 64 (escaped 8184 ∷ []))
     ∷ row 3 (frames 64 (wide 8185 ∷ [])) (frames 64 (wide 8184 ∷ []))
     -- 4 "wrong first byte or lead"
     ∷ row 4 (frames 64 (bytes "Z00\u{2}E'S\u{4}" ∷ [])) (frames 64 (E'S ∷ []))
@@ -163,6 +173,10 @@ numbersTable =
     -- 25, 26, 27 ""$": bad record, count or length; label twice; no room"
     ∷ row 25 (refusing 64 (bytes "_01Z00_02E$0AU0005FF00_04" ∷ [])) (refusing 64 (bytes "_01Z00_02E$1AU0005FF00_04" ∷ []))
     ∷ row 25 (refusing 64 (bytes "_01Z00_02E$SBL007E0000_04" ∷ [])) (refusing 512 (bytes "_01Z00_02E$SBL007D0000_04" ∷ []))
+    -- 65 records, a byte too many, a byte too few
+    ∷ row 25 (refusing 1024 (filing 2 ∷ [])) (refusing 1024 (filing 1 ∷ []))
+    ∷ row 25 (refusing 64 (bytes "_01Z00_02E$AAU0005FF00B_04" ∷ [])) (refusing 64 (bytes "_01Z00_02E$AAU0005FF00_04" ∷ []))
+    ∷ row 25 (refusing 64 (bytes "_01Z00_02E$AAU0005FF0_04" ∷ [])) (refusing 64 (bytes "_01Z00_02E$AAU0005FF00_04" ∷ []))
     ∷ row 26 (refusing 64 (bytes "_01Z00_02E$AAU0005FF00ABU00050000_04" ∷ [])) (refusing 64 (bytes "_01Z00_02E$AAU0005FF00BBU00050000_04" ∷ []))
     ∷ row 27 (refusing 64 (bytes "_01Z00_02E$AAU0036FF00_04" ∷ [])) (refusing 64 (bytes "_01Z00_02E$AAU0035FF00_04" ∷ []))
     ∷ []

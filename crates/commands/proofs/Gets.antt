@@ -25,7 +25,7 @@ use Rattle.board.specs.declared.Found.the-variants.{At, Nothing}
 use Rattle.effects.specs.Reply.{replyOf}
 use Rattle.effects.specs.Effects.{board}
 use Rattle.commands.specs.Commands.{findOn, getContent, readFile}
-use Rattle.effects.specs.Leaving.{doneAs, Told, Replied, Tells}
+use Rattle.effects.specs.InnerLeaving.{doneAs, Told, Replied, Tells}
 use Rattle.effects.specs.declared.Done.{Done}
 use Rattle.effects.proofs.ReplyLengths.{reply-length}
 use Rattle.effects.proofs.Outcomes.{tells-refused, tells-replied}

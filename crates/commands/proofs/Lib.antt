@@ -1,4 +1,4 @@
 -- Laws of the commands: what the functions go by.
 pub mod Puts
 pub mod Gets
-pub mod Choosing
+pub mod BlocksLaws

@@ -20,8 +20,8 @@ use Rattle.board.specs.declared.Found.{Found}
 use Rattle.board.specs.declared.Found.the-variants.{At, Nothing}
 use Rattle.effects.specs.Effects.{board}
 use Rattle.commands.specs.Commands.{findOn, holding, putMessage, writeFile}
-use Rattle.effects.specs.Leaving.{doneAs, Acts}
-use Rattle.commands.specs.Doing.{Room}
+use Rattle.effects.specs.InnerLeaving.{doneAs, Acts}
+use Rattle.commands.specs.InnerDoing.{Room}
 use Rattle.effects.specs.declared.Done.{Done}
 use Rattle.effects.proofs.Outcomes.{acts-refused, acts-done}
 

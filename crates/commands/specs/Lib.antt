@@ -1,4 +1,4 @@
 -- "What each command does".
 pub mod Commands
 pub mod Blocks
-pub mod Doing
+pub mod InnerDoing

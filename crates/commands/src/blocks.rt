@@ -20,8 +20,8 @@ use special::write_special;
 ghost use Rattle.body.specs.Body.{block};
 ghost use Rattle.effects.specs.Effects.{board};
 ghost use Rattle.commands.specs.Blocks.{doBlock, runBlock};
-ghost use Rattle.commands.specs.Doing.{Does};
-ghost use Rattle.effects.specs.Leaving.{Ready};
+ghost use Rattle.commands.specs.InnerDoing.{Does};
+ghost use Rattle.effects.specs.InnerLeaving.{Ready};
 
 // A block: command byte, data, and whether its sum is right. "What each command does", by its byte; the reply to B is written with A,
 // that to H with G.

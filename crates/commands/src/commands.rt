@@ -21,8 +21,8 @@ ghost use Rattle.octets.specs.Bytes.{isPlain};
 ghost use Rattle.board.specs.Soundness.{sound};
 ghost use Rattle.effects.specs.Effects.{board};
 ghost use Rattle.commands.specs.Commands.{findOn, holding, putMessage, writeFile, getContent, readFile};
-ghost use Rattle.commands.specs.Doing.{Room};
-ghost use Rattle.effects.specs.Leaving.{Told, Acts, Tells, Ready};
+ghost use Rattle.commands.specs.InnerDoing.{Room};
+ghost use Rattle.effects.specs.InnerLeaving.{Told, Acts, Tells, Ready};
 
 // "The TEXT or STRING file then holds the message, zeros after it."
 fn hold(m: &mut [u8], start: usize, size: usize, message: &[u8])

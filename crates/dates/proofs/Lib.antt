@@ -1,3 +1,3 @@
 -- Laws of dates.
 pub mod Bounds
-pub mod Months
+pub mod CalendarLaws

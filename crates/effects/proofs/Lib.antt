@@ -1,5 +1,5 @@
 -- Laws of what a command leaves, and what the functions go by.
 pub mod ReplyLengths
-pub mod Around
+pub mod ReplyLaws
 pub mod Outcomes
-pub mod Faults
+pub mod RecordingLaws

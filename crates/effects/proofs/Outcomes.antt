@@ -8,7 +8,7 @@ use Rattle.buffers.proofs.Splices.{overlay-none}
 use Rattle.board.specs.Settings.{withErrors}
 use Rattle.board.specs.declared.Settings.{Settings}
 use Rattle.effects.specs.Effects.{board, done, replied, refuse}
-use Rattle.effects.specs.Leaving.{doneAs, Acts, Tells}
+use Rattle.effects.specs.InnerLeaving.{doneAs, Acts, Tells}
 use Rattle.effects.specs.declared.Done.{Done}
 
 module _ (n : ℕ) (s : Settings) (m : List ℕ) (r : Done) (e : r ≡ doneAs n s 0) where

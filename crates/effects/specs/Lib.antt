@@ -2,4 +2,4 @@
 pub mod Effects
 pub mod Recording
 pub mod Reply
-pub mod Leaving
+pub mod InnerLeaving

@@ -2,7 +2,7 @@
 use crate::Done;
 use board::Settings;
 ghost use mathlib.Core.Path.{_≡_};
-ghost use Rattle.effects.specs.Leaving.{doneAs};
+ghost use Rattle.effects.specs.InnerLeaving.{doneAs};
 
 // A block that gives no reply, its number and the settings after it.
 pub fn quiet(s: Settings, number: u8) -> Done

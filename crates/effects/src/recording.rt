@@ -6,7 +6,7 @@ use crate::numbers::WRONG_CHECKSUM;
 use register::CHECKSUM;
 use register::ILLEGAL;
 ghost use mathlib.Core.Path.{_≡_};
-ghost use Rattle.effects.specs.Leaving.{doneAs};
+ghost use Rattle.effects.specs.InnerLeaving.{doneAs};
 ghost use Rattle.effects.specs.Recording.{faultNoted, withFault};
 
 // 20 "sets the checksum bit; 21 or 23 sets the illegal command or label bit", and no other number sets any: "Errors are OR'd into the

@@ -13,7 +13,7 @@ ghost use mathlib.Core.Path.{_≡_};
 ghost use Prim.Native.Nat.{_+_, _≤_};
 ghost use lib.ListN.{length, take, drop};
 ghost use Rattle.octets.specs.Buffer.{splice, overlay};
-ghost use Rattle.effects.specs.Leaving.{replyLead, replyTail, Replied};
+ghost use Rattle.effects.specs.InnerLeaving.{replyLead, replyTail, Replied};
 
 // "20 NUL"
 const NULS: usize = 20;

@@ -10,7 +10,7 @@ use lib.ListN.{length, drop}
 use Rattle.octets.specs.Choice.{_is_, _!_, between, front, behind}
 use Rattle.octets.specs.Hex.{isHex, isHex4}
 use Rattle.octets.specs.Carried.{capitals, isCarried, isCarried4, carried4}
-use Rattle.octets.specs.Counts.{count}
+use Rattle.octets.specs.InnerCounts.{count}
 use Rattle.octets.specs.Bytes.{STX, ETX, EOT, BLOCKS, isPlain}
 use Rattle.octets.proofs.Counts.{count-same}
 use Rattle.octets.proofs.Tests.{choice, by-test, never, and-left, and-right, and-none, split}
@@ -20,9 +20,9 @@ use Rattle.header.proofs.Texts.{isText, text-low, text-high, digit-text}
 use Rattle.body.specs.Sum.{checksum}
 use Rattle.body.specs.Body.{Block, block, Step, stray, more, last, Body, badBody, body}
 use Rattle.body.specs.Body.{isEnd, follow, afterEtx, afterData, blockAt, prepend, onward, blocks}
-use Rattle.body.specs.Walking.{blocksIn, isBody, bodyAt, blocksAt}
+use Rattle.body.specs.Steps.{blocksIn, isBody, bodyAt, blocksAt}
 use Rattle.forms.specs.Forms.{isItself}
-use Rattle.forms.specs.Lengths.{isEscaped, escapes, blockEscapes}
+use Rattle.forms.specs.InnerLengths.{isEscaped, escapes, blockEscapes}
 
 -- ---- a byte
 

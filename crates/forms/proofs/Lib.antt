@@ -1,6 +1,6 @@
 -- Laws of the three forms, and what the functions go by.
 pub mod PieceLaws
-pub mod Puttings
+pub mod FormsLaws
 pub mod Escapes
-pub mod LengthLaws
-pub mod Reckoning
+pub mod FormLengths
+pub mod LengthsLaws

@@ -15,7 +15,7 @@ use Rattle.octets.proofs.Tests.{choice, compare}
 use Rattle.body.specs.Sum.{checksum}
 use Rattle.body.specs.Body.{Block}
 use Rattle.forms.specs.Forms.{isItself, escapeOf, escape, nuls, plainRest, plainBody, summedBody, bodyIn, formOf, render}
-use Rattle.forms.specs.Pieces.{inHex2, encode, parting, ending, piece, pieces, heading, headed}
+use Rattle.forms.specs.InnerPieces.{inHex2, encode, parting, ending, piece, pieces, heading, headed}
 
 -- ---- bytes as a form carries them
 

@@ -1,4 +1,4 @@
 -- "Three forms we write."
 pub mod Forms
-pub mod Pieces
-pub mod Lengths
+pub mod InnerPieces
+pub mod InnerLengths

@@ -19,7 +19,7 @@ ghost use Rattle.octets.specs.Hex.{inHex4};
 ghost use Rattle.header.specs.Capitals.{headerCapitals};
 ghost use Rattle.body.specs.Sum.{checksum};
 ghost use Rattle.forms.specs.Forms.{isItself, escapeOf, nuls};
-ghost use Rattle.forms.specs.Pieces.{Takes, Puts, inHex2, encode, parting, ending, piece, heading};
+ghost use Rattle.forms.specs.InnerPieces.{Takes, Puts, inHex2, encode, parting, ending, piece, heading};
 
 // form 1 is plain, form 3 printable
 pub const PLAIN_FORM: u8 = 1;

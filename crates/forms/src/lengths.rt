@@ -7,7 +7,7 @@ ghost use mathlib.Core.Path.{_≡_};
 ghost use Prim.Native.Nat.{_+_, _<_, _≤_};
 ghost use lib.ListN.{length, drop};
 ghost use Rattle.octets.specs.Bytes.{TRANSLATED};
-ghost use Rattle.forms.specs.Lengths.{isEscaped, escapes, formLength, renderLength, Known};
+ghost use Rattle.forms.specs.InnerLengths.{isEscaped, escapes, formLength, renderLength, Known};
 
 // A byte 05H to FFH that form 3 carries as an escape.
 fn is_escaped(b: u8) -> bool

@@ -9,7 +9,7 @@ use Rattle.octets.specs.Bytes.{isPlain}
 use Rattle.octets.proofs.Tests.{or-out-left, or-out-right}
 use Rattle.body.specs.Body.{Block, isRead, readNotLast, hasRead, allRight}
 use Rattle.body.proofs.Plain.{BlocksOf}
-use Rattle.body.proofs.Taken.{Blocks}
+use Rattle.body.proofs.WellFormed.{Blocks}
 
 of-append : (p : ℕ → Bool) (bs cs : List Block) → BlocksOf p bs → BlocksOf p cs → BlocksOf p (bs ++ cs)
 of-append p [] cs a b = b

@@ -12,9 +12,9 @@ use Rattle.octets.specs.Bytes.{isPlain}
 use Rattle.octets.proofs.Tests.{split}
 use Rattle.header.specs.Header.{isHeader}
 use Rattle.header.specs.Capitals.{headerCapitals, noSmall}
-use Rattle.header.proofs.InCapitals.{header-same, header-none, header-own}
+use Rattle.header.proofs.CapitalsLaws.{header-same, header-none, header-own}
 use Rattle.body.specs.Body.{Block, block, readNotLast, allRight}
-use Rattle.body.proofs.Taken.{Blocks}
+use Rattle.body.proofs.WellFormed.{Blocks}
 use Rattle.reading.specs.Reading.{frame, read}
 use Rattle.reading.specs.Capitals.{inCapitals}
 use Rattle.reading.proofs.FrameLaws.{FrameOf}

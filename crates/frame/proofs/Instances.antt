@@ -14,7 +14,7 @@ use Rattle.frame.proofs.Succeeds.{join-only-if}
 use Rattle.frame.specs.Results.{resultOf, Joined}
 use Rattle.frame.proofs.Delivered.{Reformed, reform-reads, join-reads}
 use Rattle.frame.proofs.Associates.{FromLeft}
-use Rattle.writing.proofs.Computing.{writes}
+use Rattle.frame.proofs.Computing.{writes}
 
 -- "Z00"
 pub header : List ℕ

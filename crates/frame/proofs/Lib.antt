@@ -1,4 +1,9 @@
--- What we write reads back: the second demand, and what it rests on.
+-- What the frame layer promises. Frames, Standing and Stepping are for the layers above it; the others are the second demand, that what we
+-- write reads back, and what it rests on.
+pub mod Computing
+pub mod Frames
+pub mod Standing
+pub mod Stepping
 pub mod Printing
 pub mod BodyBack
 pub mod FormBytes

@@ -6,7 +6,7 @@ use mathlib.Core.List.{List, [], _∷_}
 use Prim.Native.Nat.{ℕ}
 use Rattle.octets.specs.Choice.{isByte, all}
 use Rattle.header.specs.Capitals.{headerCapitals, noSmall}
-use Rattle.header.proofs.InCapitals.{header-own}
+use Rattle.header.proofs.CapitalsLaws.{header-own}
 use Rattle.body.specs.Body.{Block, block}
 use Rattle.reading.specs.Reading.{frame, read}
 use Rattle.reading.specs.Capitals.{inCapitals}

@@ -32,14 +32,14 @@ use Rattle.records.specs.Records.{isRecords, recordsIn, labelsIn, needed, refus
 use Rattle.special.specs.Configuration.{configure}
 use Rattle.special.specs.Special.{CONFIGURATION, CLEAR, ERRORS, Change, setsAddress, setBy, change, writeSpecial, isTold, tell, afterTold, readSpecial}
 use Rattle.commands.specs.Blocks.{command, doBlock, runBlock}
-use Rattle.keeping.specs.Keeping.{fileIn, configures, writes, clears, Effects}
+use Rattle.keeping.specs.Keeping.{fileIn, configures, writes, clears, Keeps}
 use Rattle.keeping.proofs.Messages.{content, put-others, holding-files, holding-length, holding-unused, holding-index, holding-sound}
 use Rattle.records.proofs.RecordLaws.{laid-length, laid-sound, laid-index}
 use Rattle.records.proofs.Refusing.{taken}
 use Rattle.keeping.proofs.Changes.{Kept, set-keeps}
 use Rattle.special.proofs.TellLengths.{told-fits}
 use Rattle.effects.proofs.ReplyLengths.{content-fits}
-use Rattle.effects.proofs.Faults.{fault-fixed}
+use Rattle.effects.proofs.RecordingLaws.{fault-fixed}
 
 -- other settings that are in range and keep the same of memory
 other-settings : (s t : Settings) (m : List ℕ) → (inRange s ≡ true → inRange t ≡ true) → t .files ≡ s .files → keepsTrue t m ≡ keepsTrue s m →
@@ -59,11 +59,11 @@ fault-sound s m n = errors-sound s m (faultNoted (s .errors) n) (fault-fixed (s 
 
 -- what a command keeps once its number is noted
 unfoldable Noted : Board → ℕ → List ℕ → Effect → Type 0
-Noted b c d e = Effects b c d (recorded e)
+Noted b c d e = Keeps b c d (recorded e)
 
 module _ (b : Board) (c : ℕ) where
   -- a command that is done leaves nothing to note
-  as-done : (d : List ℕ) (after : Board) (r : List ℕ) → Effects b c d (replied after r) → Noted b c d (replied after r)
+  as-done : (d : List ℕ) (after : Board) (r : List ℕ) → Keeps b c d (replied after r) → Noted b c d (replied after r)
   unfolding Noted faultNoted
   as-done d after r x = x
 
@@ -101,7 +101,7 @@ module _ (b : Board) (c : ℕ) where
       whole : (x : ℕ) → x ≡ (if clears c d then CLEARED else b .settings .errors) →
           withErrors (b .settings) x ≡ (if clears c d then cleared (b .settings) else b .settings) →
           (sound (b .settings) (b .memory) ≡ true → sound (withErrors (b .settings) x) (b .memory) ≡ true) →
-          Effects b c d (replied (board (withErrors (b .settings) x) (b .memory)) r)
+          Keeps b c d (replied (board (withErrors (b .settings) x) (b .memory)) r)
       whole x e g h =
           record {
             own = refl;
@@ -131,7 +131,7 @@ module _ (b : Board) (c : ℕ) where
       m = b .memory
 
       fit : (start size : ℕ) → findOn b label kind ≡ At start size → (size <? length msg) ≡ false →
-          Effects b c (label ∷ msg) (done (board (b .settings) (holding m start size msg)))
+          Keeps b c (label ∷ msg) (done (board (b .settings) (holding m start size msg)))
       fit start size e q =
           let small : length msg ≤ size = ltb-false size (length msg) q in
           record {
@@ -315,8 +315,8 @@ command-effects b c d =
     on Q k x t e = ap Q (eqb-true c k e) ∙ t
 
 -- every block
-pub block-effects : (b : Board) (k : Block) → Effects b (k .command) (k .text) (runBlock b k)
+pub block-keeps : (b : Board) (k : Block) → Keeps b (k .command) (k .text) (runBlock b k)
 unfolding runBlock doBlock Noted
-block-effects b k =
+block-keeps b k =
     choice (Noted b (k .command) (k .text)) (not (k .right)) (λ e. refuses b (k .command) (k .text) 20 (λ e. omega arith))
     (λ e. command-effects b (k .command) (k .text))

@@ -45,7 +45,7 @@ abbrev pub clears : ℕ → List ℕ → Bool
 clears c d = if c is E then d ! 0 is CLEAR else c is F && d ! 0 is ERRORS
 
 -- what an effect of a command with these data keeps
-pub record Effects (b : Board) (c : ℕ) (d : List ℕ) (e : Effect) : Type 0 where
+pub record Keeps (b : Board) (c : ℕ) (d : List ℕ) (e : Effect) : Type 0 where
   -- own type and memory's length stay, and a sound board stays sound
   pub own : e .after .settings .own ≡ b .settings .own
   pub long : length (e .after .memory) ≡ length (b .memory)

@@ -10,7 +10,7 @@ use lib.ListN.{length, drop}
 use Rattle.octets.specs.Choice.{_is_, _≤?_, between, _!_}
 use Rattle.octets.specs.Hex.{digit, value, isHex, isHex4, hex4, inHex4}
 use Rattle.octets.specs.Carried.{isSmall, capital, capitals, isCarried, isCarried4, carried4}
-use Rattle.octets.specs.Digits.{two, twoOf, four, fourOf}
+use Rattle.octets.specs.InnerDigits.{two, twoOf, four, fourOf}
 use Rattle.octets.specs.declared.hex.Two.{Two}
 use Rattle.octets.specs.declared.hex.Two.the-variants.{Bad}
 use Rattle.octets.specs.declared.hex.Four.{Four}

@@ -9,7 +9,7 @@ use mir.Val.{Fits}
 use borrow.Author.Needs.{needs}
 use lib.ListN.{length, drop, drop-of-length-le}
 use Rattle.octets.specs.Choice.{_!_}
-use Rattle.octets.specs.Counts.{count}
+use Rattle.octets.specs.InnerCounts.{count}
 use Rattle.octets.proofs.Spots.{drop-on}
 use Rattle.octets.proofs.Tests.{choice, by-test}
 

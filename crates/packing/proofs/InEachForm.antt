@@ -6,10 +6,10 @@ use mathlib.Core.List.{List}
 use Rattle.octets.specs.Choice.{isByte, all}
 use Rattle.reading.specs.Reading.{read}
 use Rattle.reading.specs.Capitals.{inCapitals}
-use Rattle.reading.proofs.InCapitals.{capitals-again}
 use Rattle.writing.specs.Output.{Output}
 use Rattle.writing.specs.Reforming.{reform}
 use Rattle.frame.specs.Results.{resultOf}
+use Rattle.frame.proofs.Frames.{capitals-twice}
 use Rattle.frame.proofs.ReadBack.{reformed-back}
 use Rattle.board.specs.declared.Settings.{Settings}
 use Rattle.sign.specs.Run.{run}
@@ -19,4 +19,4 @@ use Rattle.sign.proofs.Alike.{capitals-alike}
 pub forms-alike : (s : Settings) (m o f : List ℕ) (form : ℕ) (before : List ℕ) (x : Output) → all isByte f ≡ true
     → x ≡ reform form f before → x .answer .number ≡ 0 → run s m o (resultOf x) ≡ run s m o f
 forms-alike s m o f form before x a e z =
-    capitals-alike s m o (resultOf x) f (ap inCapitals (reformed-back x form f before a e z) ∙ capitals-again (read f))
+    capitals-alike s m o (resultOf x) f (ap inCapitals (reformed-back x form f before a e z) ∙ capitals-twice (read f))

@@ -12,11 +12,11 @@ use borrow.Author.Tests.{lt-leb, le-leb, eq-eqb, ne-eqb}
 use lib.ListN.{length, take, drop, set, length-set, length-drop, length-append, drop-of-length-le}
 use lib.Seq.{sets, length-sets, drop-drop}
 use Rattle.octets.specs.Choice.{_is_, between, behind, _!_}
-use Rattle.octets.specs.Equal.{differs}
+use Rattle.octets.specs.InnerEqual.{differs}
 use Rattle.octets.specs.Buffer.{splice}
 use Rattle.octets.specs.Carried.{capitals, isCarried2}
 use Rattle.octets.specs.Bytes.{ESCAPE}
-use Rattle.octets.specs.Digits.{two}
+use Rattle.octets.specs.InnerDigits.{two}
 use Rattle.octets.specs.declared.hex.Two.{Two}
 use Rattle.octets.specs.declared.hex.Two.the-variants.{Value, Bad}
 use Rattle.octets.proofs.Buffers.{splice-sets, sets-append}
@@ -26,7 +26,7 @@ use Rattle.octets.proofs.Told.{two-none, two-some}
 use Rattle.octets.proofs.Tests.{choice, by-test, never}
 use Rattle.reading.specs.Translation.{Translation, untranslated, translated, push, translateFrom, translate}
 use Rattle.reading.specs.Places.{bytesOf}
-use Rattle.reading.specs.Walking.{charIn, charAt, unmarked, isWhole}
+use Rattle.reading.specs.InnerParts.{charIn, charAt, unmarked, isWhole}
 use Rattle.reading.specs.declared.translation.Char.{Char}
 use Rattle.reading.specs.declared.translation.Char.the-variants.{Stands, Faulty}
 use Rattle.reading.proofs.Translating.{translate-skip, whole-push, bytes-push, Unmarked, run-unmarked}

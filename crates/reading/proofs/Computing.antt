@@ -1,6 +1,6 @@
 -- The definitions of a reading and of what stands below it, under one name.
 use Rattle.octets.specs.Choice.{isByte, front, behind, all, among, same}
-use Rattle.octets.specs.Equal.{equals}
+use Rattle.octets.specs.InnerEqual.{equals}
 use Rattle.octets.specs.Bytes.{isNul, isPlain}
 use Rattle.octets.specs.Hex.{digit, value, isHex2, hex2, isHex4, hex4, inHex4}
 use Rattle.octets.specs.Carried.{capital, capitals}
@@ -11,8 +11,8 @@ use Rattle.header.specs.Header.{isPair, isPairs, isHeader}
 use Rattle.header.specs.Capitals.{capitalAt, capitalsFrom, headerCapitals, noSmallFrom, noSmall}
 use Rattle.body.specs.Sum.{sumFrom, summed, checksum}
 use Rattle.body.specs.Body.{follow, afterEtx, afterData, blockAt, prepend, onward, blocks, isRead, readNotLast, hasRead, allRight}
-use Rattle.body.specs.Steps.{placed, foundAt}
-use Rattle.body.specs.Walking.{blocksIn, isBody, lastNumber, verdict}
+use Rattle.body.specs.Steps.{placed, foundAt, blocksIn, isBody}
+use Rattle.body.specs.InnerSurveying.{lastNumber, verdict}
 use Rattle.reading.specs.Translation.{push, translateFrom, translate}
 use Rattle.reading.specs.Lead.{isSoh, nulLead, sohLead, leadOf}
 use Rattle.reading.specs.Reading.{notStx, readBody, readHeader, readLed, readTranslated, readPrintable, readStandard, read}

@@ -14,7 +14,7 @@ use Rattle.octets.proofs.Tests.{choice, split}
 use Rattle.octets.proofs.Lists.{all-cons, all-drop, behind-keeps}
 use Rattle.header.specs.Header.{isHeader}
 use Rattle.body.specs.Body.{Block, Body, badBody, body, blocks, readNotLast}
-use Rattle.body.proofs.Taken.{anything, all-anything, Blocks, BodyOf, blocks-of}
+use Rattle.body.proofs.WellFormed.{anything, all-anything, Blocks, BodyOf, blocks-of}
 use Rattle.reading.specs.Translation.{Translation, untranslated, translated, push, translateFrom, translate}
 use Rattle.reading.specs.Lead.{Led, misled, led, fewestNul, fewestSoh, isSoh, nulLead, sohLead, leadOf}
 use Rattle.reading.specs.Reading.{Reading, refused, frame, notStx, readBody, readHeader, readLed}
@@ -161,11 +161,3 @@ read-anything s = read-of anything (λ x. translate-anything (translate x)) s (a
 -- what reads as a frame is one
 pub read-plain : (s h : List ℕ) (bs : List Block) → read s ≡ frame h bs → FrameOf anything h bs
 read-plain s h bs e = rw e at (read-anything s)
-
--- and its blocks are bytes where all that was read is
-pub read-bytes : (s h : List ℕ) (bs : List Block) → all isByte s ≡ true → read s ≡ frame h bs → FrameOf isByte h bs
-read-bytes s h bs a e = rw e at (read-of isByte translate-bytes s a)
-
--- a refusal has a number from 3 to 8
-pub read-number : (s : List ℕ) (n : ℕ) → read s ≡ refused n → RefusalOf n
-read-number s n e = rw e at (read-anything s)

@@ -5,9 +5,9 @@ use mathlib.Core.List.{List, []}
 use Prim.Native.Nat.{ℕ}
 use Rattle.octets.specs.Choice.{isByte, all}
 use Rattle.header.specs.Capitals.{headerCapitals, noSmallFrom, noSmall}
-use Rattle.header.proofs.InCapitals.{header-same, header-none, header-own}
+use Rattle.header.proofs.CapitalsLaws.{header-same, header-none, header-own}
 use Rattle.body.specs.Body.{Block}
-use Rattle.body.proofs.Taken.{anything}
+use Rattle.body.proofs.WellFormed.{anything}
 use Rattle.reading.specs.Reading.{Reading, refused, frame, read}
 use Rattle.reading.specs.Capitals.{inCapitals}
 use Rattle.reading.proofs.FrameLaws.{FrameOf, RefusalOf, ReadingOf, translate-bytes, read-of, read-anything}

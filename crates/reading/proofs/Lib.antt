@@ -2,7 +2,7 @@
 pub mod FrameLaws
 pub mod InCapitals
 pub mod Translating
-pub mod Leads
+pub mod LeadLaws
 pub mod Marks
 pub mod Chars
 pub mod Parting

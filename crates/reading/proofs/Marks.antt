@@ -9,7 +9,7 @@ use borrow.Author.Tests.{eqb-true, le-leb, not-true, not-false}
 use lib.ListN.{length, drop, drop-of-length-le}
 use Rattle.octets.specs.Choice.{_is_, _isn't_, _!_, between}
 use Rattle.octets.specs.Hex.{value, isHex2}
-use Rattle.octets.specs.Counts.{count}
+use Rattle.octets.specs.InnerCounts.{count}
 use Rattle.octets.specs.Carried.{capitals, isCarried, isCarried2, carried2}
 use Rattle.octets.specs.Bytes.{ESCAPE, PRINTABLE}
 use Rattle.octets.proofs.Capitals.{capitals-at}
@@ -19,7 +19,7 @@ use Rattle.octets.proofs.Tests.{by-test, never, split, and-none, and-assoc, and
 use Rattle.header.proofs.Texts.{isText, text-low, text-high, digit-text}
 use Rattle.reading.specs.Translation.{Translation, untranslated, translated, push, translateFrom, translate}
 use Rattle.reading.specs.Places.{bytesOf}
-use Rattle.reading.specs.Walking.{mayStand, allStand, isMark, counted, isWhole}
+use Rattle.reading.specs.InnerParts.{mayStand, allStand, isMark, counted, isWhole}
 use Rattle.reading.proofs.Translating.{whole-push, bytes-push}
 use Rattle.reading.specs.declared.translation.Counted.the-variants.{Bytes, Faulty as NoCount}
 

@@ -8,21 +8,20 @@ use borrow.Author.Needs.{needs}
 use borrow.Author.Tests.{eq-eqb, ne-eqb}
 use lib.ListN.{length, drop, length-drop, drop-of-length-le}
 use lib.Seq.{drop-drop}
-use Rattle.octets.specs.Choice.{_is_, _isn't_, _<?_, _!_, none, front, behind}
+use Rattle.octets.specs.Choice.{_is_, _isn't_, _<?_, _!_, none, front, behind, part}
 use Rattle.octets.specs.Bytes.{NUL, SOH, STX, BLOCKS, isNul}
 use Rattle.octets.proofs.Spots.{drop-on}
 use Rattle.octets.proofs.Tests.{compare, by-test, choice}
 use Rattle.octets.proofs.Places.{take-front, drop-front, end-go, end-stop, end-out}
 use Rattle.header.specs.Header.{isHeader}
 use Rattle.body.specs.Body.{Body, badBody, body, blocks, readNotLast}
-use Rattle.body.specs.Walking.{part, lastNumber, verdict}
-use Rattle.body.specs.Surveying.{surveyed}
-use Rattle.body.specs.declared.judging.Survey.{Survey}
-use Rattle.body.proofs.Surveys.{survey-number}
+use Rattle.body.specs.InnerSurveying.{surveyed, lastNumber, verdict}
+use Rattle.body.specs.declared.surveying.Survey.{Survey}
+use Rattle.body.proofs.SurveyingLaws.{survey-number}
 use Rattle.reading.specs.Lead.{Led, misled, led, isSoh, fewestNul, fewestSoh, nulLead, sohLead, leadOf}
 use Rattle.reading.specs.Reading.{Reading, refused, frame, notStx, readBody, readHeader, readLed}
 use Rattle.reading.specs.Places.{behindLead, headerIn}
-use Rattle.reading.specs.Walking.{leadEnd, bodyPlace, partPlaces}
+use Rattle.reading.specs.InnerParts.{leadEnd, bodyPlace, partPlaces}
 use Rattle.reading.specs.declared.lead.LeadEnd.{LeadEnd}
 use Rattle.reading.specs.declared.lead.LeadEnd.the-variants.{At, Wrong}
 use Rattle.reading.specs.declared.reading.BodyPlace.{BodyPlace}

@@ -13,12 +13,12 @@ use Rattle.octets.specs.Bytes.{NUL, SOH, ESCAPE, STANDARD, PRINTABLE, TRANSLATE
 use Rattle.octets.specs.Buffer.{overlay}
 use Rattle.octets.proofs.Spots.{there}
 use Rattle.octets.proofs.Tests.{by-test}
-use Rattle.body.specs.declared.judging.Survey.{Survey}
+use Rattle.body.specs.declared.surveying.Survey.{Survey}
 use Rattle.reading.specs.Translation.{Translation, untranslated, translated, translate}
 use Rattle.reading.specs.Lead.{leadOf}
 use Rattle.reading.specs.Reading.{Reading, refused, frame, readLed, readTranslated, readPrintable, readStandard, read}
 use Rattle.reading.specs.Places.{isPrintable, bytesOf, standsFor, headerIn, headerPlace, placesOf, readPlaces, bareRead, fill, roomAfter, Reads}
-use Rattle.reading.specs.Walking.{counted, isWhole, partPlaces, roomPlaces, translatedLength, Translates}
+use Rattle.reading.specs.InnerParts.{counted, isWhole, partPlaces, roomPlaces, translatedLength, Translates}
 use Rattle.reading.specs.declared.Read.{Read}
 use Rattle.reading.specs.declared.Read.the-variants.{Refused, Standard, Printable}
 use Rattle.reading.specs.declared.translation.Counted.{Counted}

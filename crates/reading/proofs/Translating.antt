@@ -7,7 +7,7 @@ use native.Mathlib.Omega.{arith}
 use lib.ListN.{drop}
 use borrow.Author.Tests.{lt-ltb}
 use Rattle.octets.specs.Choice.{_is_, between, front, behind}
-use Rattle.octets.specs.Equal.{differs}
+use Rattle.octets.specs.InnerEqual.{differs}
 use Rattle.octets.specs.Hex.{digit, value, isHex2, hex2}
 use Rattle.octets.specs.Carried.{capitals}
 use Rattle.octets.specs.Bytes.{ESCAPE}
@@ -16,7 +16,7 @@ use Rattle.octets.proofs.Capitals.{capital-digit}
 use Rattle.octets.proofs.Tests.{by-test, never}
 use Rattle.reading.specs.Translation.{Translation, untranslated, translated, push, translateFrom}
 use Rattle.reading.specs.Places.{bytesOf}
-use Rattle.reading.specs.Walking.{unmarked, isWhole}
+use Rattle.reading.specs.InnerParts.{unmarked, isWhole}
 
 -- bytes that belong to an escape are passed over
 pub translate-skip : (k : ℕ) (l : List ℕ) → translateFrom k l ≡ translateFrom 0 (drop k l)

@@ -6,20 +6,20 @@ use Prim.Native.Nat.{ℕ, _+_, _-_, _<_, _≤_}
 use native.Mathlib.Omega.{arith}
 use borrow.Author.Tests.{eqb-true, ltb-false, ne-eqb, not-false}
 use lib.ListN.{length, take, drop, drop-of-length-le}
-use Rattle.octets.specs.Choice.{_is_, _<?_, _!_, none, front, behind}
+use Rattle.octets.specs.Choice.{_is_, _<?_, _!_, none, front, behind, part}
 use Rattle.octets.specs.Bytes.{NUL, SOH, ESCAPE, STANDARD, PRINTABLE, TRANSLATED, BLOCKS}
 use Rattle.octets.proofs.Tests.{compare, choice, never, or-in}
 use Rattle.header.specs.Header.{isHeader}
 use Rattle.body.specs.Body.{Block, Body, badBody, body as bodyOf, blocks, readNotLast}
-use Rattle.body.specs.Walking.{part, blocksIn, isBody, bodyAt, blocksAt}
-use Rattle.body.specs.Surveying.{surveyed}
-use Rattle.body.specs.declared.judging.Survey.{Survey}
+use Rattle.body.specs.Steps.{blocksIn, isBody, bodyAt, blocksAt}
+use Rattle.body.specs.InnerSurveying.{surveyed}
+use Rattle.body.specs.declared.surveying.Survey.{Survey}
 use Rattle.reading.specs.Translation.{Translation, untranslated, translated, translate}
 use Rattle.reading.specs.Lead.{Led, misled, led, leadOf}
 use Rattle.reading.specs.Reading.{Reading, refused, frame, notStx, readBody, readHeader, readLed}
 use Rattle.reading.specs.Reading.{readTranslated, readPrintable, readStandard, read}
 use Rattle.reading.specs.Places.{isPrintable, behindLead, headerIn, placesOf, readPlaces, bareRead, roomAfter, Reads}
-use Rattle.reading.specs.Walking.{partPlaces, partsView}
+use Rattle.reading.specs.InnerParts.{partPlaces, partsView}
 use Rattle.reading.specs.declared.Read.{Read}
 use Rattle.reading.specs.declared.Read.the-variants.{Refused, Standard, Printable}
 use Rattle.reading.specs.declared.reading.Parts.{Parts}
@@ -262,33 +262,3 @@ module _ (t : List ℕ) (l : length t ≤ 8192) {q : Parts} (e : q ≡ partPlace
 
   pub room-told : {i j : ℕ} {v : Survey} → q ≡ PartsAt i j v → Told t i j v (readLed (leadOf true t))
   room-told {i} {j} {v} f = told-parts true t (readLed (leadOf true t)) (stands-part true t l) i j v (sym e ∙ f)
-
--- ---- places read back
-
--- header text and blocks of the bytes in which they stand
-unfoldable pub shown : List ℕ → Body → Reading
-shown h badBody = refused 7
-shown h (bodyOf bs) = frame h bs
-
--- what a reading answered, read back without places
-unfoldable pub readView : List ℕ → List ℕ → Read → Reading
-readView s room (Refused n) = refused n
-readView s room (Standard i j) = shown (part i j s) (blocks BLOCKS (drop j s))
-readView s room (Printable n i j) = shown (part i j (take n room)) (blocks BLOCKS (drop j (take n room)))
-
-view-stands : (t : List ℕ) (i j : ℕ) (r : Reading) → Stands t i j r → shown (part i j t) (blocks BLOCKS (drop j t)) ≡ r
-unfolding shown
-view-stands t i j r w = rw (w .body) (sym (w .reads))
-
-pub read-view : (s room : List ℕ) → readView s (roomAfter s room) (readPlaces s) ≡ read s
-unfolding readView
-read-view s room = go (readPlaces s) (places-of s room)
-  where
-    go : (x : Read) → PlacesOf s room x → readView s (roomAfter s room) x ≡ read s
-    go (Refused n) w = sym w
-    go (Standard i j) w = view-stands s i j (read s) w
-    go (Printable n i j) w = view-stands (take n (roomAfter s room)) i j (read s) (w .stands)
-
--- whatever a call answers and leaves, read back, is what the definitions read
-pub reads-view : {s room after : List ℕ} {answer : Read} → Reads s room answer after → readView s after answer ≡ read s
-reads-view {s} {room} g = rw (g .left, g .places) (read-view s room)

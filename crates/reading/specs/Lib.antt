@@ -4,4 +4,4 @@ pub mod Lead
 pub mod Reading
 pub mod Capitals
 pub mod Places
-pub mod Walking
+pub mod InnerParts

@@ -6,7 +6,7 @@ use octets::slices::byte_at;
 use octets::slices::equal_run;
 ghost use mathlib.Core.Path.{_≡_};
 ghost use Rattle.reading.specs.Lead.{fewestNul, fewestSoh, nulLead, sohLead, leadOf};
-ghost use Rattle.reading.specs.Walking.{leadEnd};
+ghost use Rattle.reading.specs.InnerParts.{leadEnd};
 
 // Where the header starts; or a wrong lead.
 pub enum LeadEnd {

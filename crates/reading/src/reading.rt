@@ -5,8 +5,8 @@ use crate::lead::lead_end;
 use crate::translation::Counted;
 use crate::translation::count_translated;
 use crate::translation::translate_into;
-use body::judging::Survey;
-use body::judging::survey_at;
+use body::surveying::Survey;
+use body::surveying::survey_at;
 use header::is_header;
 use octets::bytes::ESCAPE;
 use octets::bytes::NUL;
@@ -26,7 +26,7 @@ ghost use Rattle.octets.specs.Bytes.{NUL, SOH};
 ghost use Rattle.reading.specs.Lead.{led, leadOf};
 ghost use Rattle.reading.specs.Reading.{notStx, readLed, read};
 ghost use Rattle.reading.specs.Places.{isPrintable, bareRead, Reads};
-ghost use Rattle.reading.specs.Walking.{bodyPlace, partPlaces, roomPlaces, Translates};
+ghost use Rattle.reading.specs.InnerParts.{bodyPlace, partPlaces, roomPlaces, Translates};
 
 // "input empty, over 8,192 bytes standard or 24,576 printable, or over 8,192 translated"
 pub const WRONG_LENGTH: u8 = 3;

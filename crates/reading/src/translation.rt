@@ -17,12 +17,12 @@ ghost use Prim.Native.Nat.{_+_, _-_, _<_, _≤_};
 ghost use lib.ListN.{length, drop};
 ghost use lib.Seq.{sets};
 ghost use Rattle.octets.specs.Choice.{_isn't_, _!_, between};
-ghost use Rattle.octets.specs.Counts.{count};
+ghost use Rattle.octets.specs.InnerCounts.{count};
 ghost use Rattle.octets.specs.Carried.{isCarried};
 ghost use Rattle.octets.specs.Bytes.{ESCAPE, PRINTABLE};
 ghost use Rattle.reading.specs.Translation.{translate};
 ghost use Rattle.reading.specs.Places.{bytesOf};
-ghost use Rattle.reading.specs.Walking.{charAt, mayStand, allStand, isMark, unmarked, counted, isWhole};
+ghost use Rattle.reading.specs.InnerParts.{charAt, mayStand, allStand, isMark, unmarked, counted, isWhole};
 
 // One byte of a printable frame: the byte that it stands for, and where the next one starts; or a fault.
 pub enum Char {

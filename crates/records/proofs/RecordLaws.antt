@@ -22,7 +22,7 @@ use Rattle.board.proofs.SoundParts.{memory-most, whole}
 use Rattle.board.proofs.Indexing.{index-true}
 use Rattle.records.specs.Capitals.{recordCapitals}
 use Rattle.records.specs.Records.{isListed, listedSize, isRecords, recordsIn, labelsIn, needed, neededBy, sizeIn, withSize, stored, laid}
-use Rattle.records.proofs.InCapitals.{listed-long, listed-start}
+use Rattle.records.proofs.CapitalsLaws.{listed-long, listed-start}
 
 -- ---- n records, as they have to be
 

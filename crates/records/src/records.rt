@@ -21,7 +21,7 @@ ghost use Prim.Native.Nat.{_+_, _*_, _≤_};
 ghost use lib.ListN.{length, drop};
 ghost use Rattle.octets.specs.Buffer.{splice};
 ghost use Rattle.records.specs.Records.{listedSize, isRecords, needed, neededBy, refusal, sizeIn, stored};
-ghost use Rattle.records.specs.Filing.{startsRecord, emptyFile, Spot, Listed, Laid};
+ghost use Rattle.records.specs.InnerFiling.{startsRecord, emptyFile, Spot, Listed, Laid};
 
 // Whether a record of the list stands at a place; "SIZE 0000 is allowed only in a last TEXT record".
 fn starts_record(d: &[u8], at: usize) -> bool

@@ -2,18 +2,23 @@
 use Prim.Native.Nat.{ℕ, zero, suc, _+_, _-_, _≤_}
 use mathlib.Core.Path.{_≡_, refl, sym, ap, ap₂, _∙_, subst}
 use mathlib.Core.Bool.{Bool, true, false, cond, _&&_}
+use native.Mathlib.Nat.{add-zero}
 use native.Mathlib.Omega.{arith}
+use borrow.Author.Tests.{lt-ltb, le-ltb}
 use lib.Dec.{ltb}
 use lib.IntN.{ℤ, pos, negsuc, negℤ, natAbs, _+ℤ_, _-ℤ_, +ℤ-assoc, +ℤ-comm, +ℤ-invr, +ℤ-invl, +ℤ-idl, negℤ-+ℤ, negℤ-negℤ, +ℤ-negℤ-cancel, -ℤ-+ℤ-cancel}
+use lib.Signed.{ltZ}
+use Rattle.octets.specs.Choice.{_<?_}
 use Rattle.octets.proofs.Tests.{by-test, choice, split, and-both}
 use Rattle.renewal.specs.Counting.{exists, monthNumber, lengthOf, daysBefore, dayNumber}
 use Rattle.renewal.specs.Days.{daysApart, daysBetween}
+use Rattle.renewal.specs.Order.{isEarlier}
 use Rattle.renewal.specs.Renewing.{renewalDate}
 use Rattle.renewal.specs.Stays.{lastDay}
 use Rattle.renewal.specs.declared.Date.{Date}
 use Rattle.renewal.specs.declared.DaysApart.{DaysApart}
 use Rattle.renewal.specs.declared.Renewed.{Renewed}
-use Rattle.renewal.proofs.Numbered.{from-day, length-is, day-most, same-date}
+use Rattle.renewal.proofs.Numbered.{from-day, length-is, day-most, one-month, ordered, same-date}
 use Rattle.renewal.proofs.InTurn.{first-there, stays, keeps-day}
 
 -- both dates exist where 0 is answered
@@ -28,9 +33,26 @@ days-are : (a b : Date) → (exists a && exists b) ≡ true → daysBetween a b 
 unfolding daysBetween
 days-are a b t = rw t
 
-one-month : (a b : Date) → a .year ≡ b .year → a .month ≡ b .month → monthNumber a ≡ monthNumber b
-unfolding monthNumber
-one-month a b y m = rw (y, m)
+-- -(y - x) is x - y
+turned : (x y : ℤ) → negℤ (y -ℤ x) ≡ x -ℤ y
+turned x y = negℤ-+ℤ y (negℤ x) ∙ ap (λ (z : ℤ). negℤ y +ℤ z) (negℤ-negℤ x) ∙ +ℤ-comm (negℤ y) x
+
+-- a difference is below 0 exactly where the first number is below the second
+below : (n m : ℕ) → ltZ (pos n -ℤ pos m) (pos 0) ≡ (n <? m)
+below n zero = rw (add-zero n)
+below n (suc m) =
+    elim (ltb n (suc m)) as (λ t. ltZ (cond t (negsuc (suc m - suc n)) (pos (n - suc m))) (pos 0) ≡ t)
+    [ true ↦ refl | false ↦ le-ltb (n - suc m) 0 (omega arith) ]
+
+-- a number is above 0 exactly where its negative is below
+mirrored : (z : ℤ) → ltZ (pos 0) z ≡ ltZ (negℤ z) (pos 0)
+mirrored (pos zero) = refl
+mirrored (pos (suc n)) = lt-ltb 0 (suc n) (omega arith)
+mirrored (negsuc n) = sym (le-ltb (suc n) 0 (omega arith))
+
+-- so a difference is above 0 exactly where the second number is below the first
+above : (n m : ℕ) → ltZ (pos 0) (pos n -ℤ pos m) ≡ (m <? n)
+above n m = mirrored (pos n -ℤ pos m) ∙ ap (λ (z : ℤ). ltZ z (pos 0)) (turned (pos m) (pos n)) ∙ below m n
 
 -- r is what is answered of two dates: any outcome that meets the call's promise
 module _ (a b : Date) (r : DaysApart) (promise : r ≡ daysBetween a b) where
@@ -65,6 +87,16 @@ module _ (a b : Date) (r : DaysApart) (promise : r ≡ daysBetween a b) where
         let n : 0 + dayNumber a ≡ dayNumber b = ap natAbs (ap (λ (z : ℤ). z +ℤ pos (dayNumber a)) (sym e) ∙ on-from) in
         same-date a b first-exists second-exists (omega arith)
 
+    -- "negative when the second is earlier", and only then
+    pub below-nought : ltZ (r .days) (pos 0) ≡ isEarlier b a
+    below-nought =
+        ap (λ (z : ℤ). ltZ z (pos 0)) days-is ∙ below (dayNumber b) (dayNumber a) ∙ ordered b a second-exists first-exists
+
+    -- and above 0 exactly where it is later
+    pub above-nought : ltZ (pos 0) (r .days) ≡ isEarlier a b
+    above-nought =
+        ap (λ (z : ℤ). ltZ (pos 0) z) days-is ∙ above (dayNumber b) (dayNumber a) ∙ ordered a b first-exists second-exists
+
     -- in one month it is the difference of the days
     pub within-month : a .year ≡ b .year → a .month ≡ b .month → a .day ≤ b .day → r .days ≡ pos (b .day - a .day)
     unfolding dayNumber
@@ -78,10 +110,6 @@ unfolding daysBetween
 none-for-one a r e =
     ap (λ (x : DaysApart). x .days) e
     ∙ choice (λ (x : DaysApart). x .days ≡ pos 0) (exists a && exists a) (λ t. +ℤ-invr (pos (dayNumber a))) (λ t. refl)
-
--- -(y - x) is x - y
-turned : (x y : ℤ) → negℤ (y -ℤ x) ≡ x -ℤ y
-turned x y = negℤ-+ℤ y (negℤ x) ∙ ap (λ (z : ℤ). negℤ y +ℤ z) (negℤ-negℤ x) ∙ +ℤ-comm (negℤ y) x
 
 both-ways : (p q : Bool) → (p && q) ≡ (q && p)
 both-ways true true = refl

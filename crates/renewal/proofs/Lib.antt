@@ -1,8 +1,8 @@
 -- Laws of renewal dates.
-pub mod Entries
+pub mod TableLaws
 pub mod Numbered
 pub mod Counted
-pub mod Reaching
+pub mod RenewingLaws
 pub mod Inside
 pub mod InTurn
 pub mod Between

@@ -4,3 +4,4 @@ pub mod Renewing
 pub mod Days
 pub mod Stays
 pub mod Following
+pub mod Order

@@ -5,6 +5,7 @@ ghost use Prim.Native.Nat.{_+_, _<_, _≤_};
 ghost use lib.ListN.{length};
 ghost use Rattle.io.specs.Counts.{Counts};
 use board::Settings;
+use frame::Written;
 use libc::STDIN_FILENO;
 use libc::STDOUT_FILENO;
 use renewal::Date;
@@ -15,7 +16,6 @@ use signed::plain::from_byte;
 use signed::plain::size;
 use signed::plain::widen;
 use signed::plain::widen_byte;
-use writing::Written;
 
 // What reading an argument finds: how many bytes it has, and whether the input held them all.
 struct Got {

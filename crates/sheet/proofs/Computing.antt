@@ -17,7 +17,7 @@ use Rattle.commands.specs.Blocks.{command, doBlock, runBlock}
 use Rattle.sign.specs.Run.{count, measure, onto, runBlocks, runFrame, run}
 use Rattle.sign.specs.Fresh.{fresh}
 use Rattle.sign.specs.Packing.{setsNoAddress}
-use Rattle.writing.proofs.Computing.{writes}
+use Rattle.frame.proofs.Computing.{writes}
 
 -- who unfolds it lets every definition of the base compute
 unfoldable pub base : Unit {0}

@@ -2,9 +2,9 @@
 use Prim.Native.Nat.{ℕ}
 use mathlib.Core.Path.{_≡_, refl, sym, ap, _∙_}
 use mathlib.Core.List.{List}
-use Rattle.header.proofs.InCapitals.{addressed-same}
 use Rattle.reading.specs.Reading.{Reading, refused, frame, read}
 use Rattle.reading.specs.Capitals.{inCapitals}
+use Rattle.frame.proofs.Frames.{addressed-alike}
 use Rattle.board.specs.declared.Settings.{Settings}
 use Rattle.sign.specs.Run.{runFrame, run}
 
@@ -12,7 +12,7 @@ use Rattle.sign.specs.Run.{runFrame, run}
 pub run-capitals : (s : Settings) (m o : List ℕ) (r : Reading) → runFrame s m o (inCapitals r) ≡ runFrame s m o r
 unfolding runFrame inCapitals
 run-capitals s m o (refused n) = refl
-run-capitals s m o (frame h bs) = rw (addressed-same h (s .own) (s .address))
+run-capitals s m o (frame h bs) = rw (addressed-alike h (s .own) (s .address))
 
 module _ (s : Settings) (m o f g : List ℕ) where
   -- two frames that read as the same, their headers in capitals, do the same, on any board and with any reply buffer

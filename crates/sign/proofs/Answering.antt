@@ -3,27 +3,28 @@ use Prim.Native.Nat.{ℕ, _+_, _<_, _≤_}
 use mathlib.Core.Path.{_≡_, sym, ap, _∙_}
 use mathlib.Core.Bool.{Bool, true, false, not}
 use mathlib.Core.List.{List}
-use native.Mathlib.Omega.{arith}
 use borrow.Author.Needs.{needs}
-use borrow.Author.Tests.{lt-ltb, le-ltb, not-false}
+use borrow.Author.Tests.{lt-ltb, le-ltb, not-true, not-false}
 use lib.ListN.{length, take}
+use Rattle.octets.specs.Choice.{part}
 use Rattle.header.specs.Addressing.{addressed}
-use Rattle.body.specs.Walking.{part, blocksAt}
+use Rattle.body.specs.Steps.{blocksAt}
 use Rattle.reading.specs.Reading.{refused, frame, read}
 use Rattle.reading.specs.Places.{isPrintable, bareRead, Reads}
 use Rattle.reading.specs.declared.Read.{Read}
 use Rattle.reading.specs.declared.Read.the-variants.{Refused, Standard, Printable}
-use Rattle.reading.proofs.Viewing.{Stands, stands-good, stands-frame, reads-refused, reads-standard, reads-printable, reads-within, reads-counts}
-use Rattle.reading.proofs.Viewing.{bare-refused, bare-standard, bare-never}
+use Rattle.frame.proofs.Standing.{Standing, refused-reads, standard-stands, printable-stands, room-within, room-counts}
+use Rattle.frame.proofs.Standing.{bare-refused, bare-stands, bare-never}
 use Rattle.board.specs.Soundness.{sound}
 use Rattle.board.specs.declared.Settings.{Settings}
 use Rattle.effects.specs.Effects.{board}
-use Rattle.effects.specs.Leaving.{Ready}
+use Rattle.effects.specs.InnerLeaving.{Ready}
 use Rattle.sign.specs.Run.{nothing, state, runBlocks, outcome, ran, runFrame, run}
-use Rattle.sign.specs.Running.{answerAs, stateAs, Framed}
+use Rattle.sign.specs.InnerRunning.{answerAs, stateAs, Framed}
 use Rattle.sign.specs.declared.Tally.{Tally}
 use Rattle.sign.specs.declared.Answer.{Answer}
 use Rattle.sign.specs.declared.run.Ran.{Ran}
+use Rattle.sign.proofs.RunLaws.{run-unsound, run-short}
 
 pub untouched-as : (n : ℕ) (s : Settings) (u : Tally) → u ≡ nothing → answerAs n u s ≡ answerAs n nothing s
 untouched-as n s u e = ap (λ (x : Tally). answerAs n x s) e
@@ -47,12 +48,12 @@ pub ruleset framing = (untouched-as, frame-away, frame-ran, needs)
 
 module _ {s : Settings} {m o : List ℕ} (y : Ready s m o) (f : List ℕ) where
   -- where a frame stands in bytes t
-  parted : {t : List ℕ} {i j : ℕ} → Stands t i j (read f) → Framed s m o t i j
-  parted w = record { running = record { ready = y; good = stands-good w }; ordered = w .ordered; inside = omega arith }
+  parted : {t : List ℕ} {i j : ℕ} → Standing t i j (read f) → Framed s m o t i j
+  parted w = record { running = record { ready = y; good = w .good }; ordered = w .ordered; inside = w .inside }
 
-  answered : {t : List ℕ} {i j : ℕ} → Stands t i j (read f) → (r : Answer) (m′ o′ : List ℕ) →
+  answered : {t : List ℕ} {i j : ℕ} → Standing t i j (read f) → (r : Answer) (m′ o′ : List ℕ) →
       outcome r m′ o′ ≡ runFrame s m o (frame (part i j t) (blocksAt t j)) → outcome r m′ o′ ≡ runFrame s m o (read f)
-  answered w r m′ o′ q = q ∙ sym (ap (runFrame s m o) (stands-frame w))
+  answered w r m′ o′ q = q ∙ sym (ap (runFrame s m o) (w .reads))
 
   refuses : {n : ℕ} → read f ≡ refused n → (r : Answer) → r ≡ answerAs n nothing s → outcome r m o ≡ runFrame s m o (read f)
   unfolding runFrame
@@ -61,25 +62,25 @@ module _ {s : Settings} {m o : List ℕ} (y : Ready s m o) (f : List ℕ) where
   module _ {room after : List ℕ} {x : Read} (g : Reads f room x after) where
     -- 3 to 8
     pub roomed-refused : {n : ℕ} → x ≡ Refused n → (r : Answer) → r ≡ answerAs n nothing s → outcome r m o ≡ runFrame s m o (read f)
-    roomed-refused h = refuses (reads-refused g h)
+    roomed-refused h = refuses (refused-reads g h)
 
     -- a standard frame
     module _ {i j : ℕ} (h : x ≡ Standard i j) where
       pub standard-parted : Framed s m o f i j
-      standard-parted = parted (reads-standard g h)
+      standard-parted = parted (standard-stands g h)
 
       pub standard-ran : (r : Answer) (m′ o′ : List ℕ) → outcome r m′ o′ ≡ runFrame s m o (frame (part i j f) (blocksAt f j)) →
           outcome r m′ o′ ≡ runFrame s m o (read f)
-      standard-ran = answered (reads-standard g h)
+      standard-ran = answered (standard-stands g h)
 
     -- a printable one
     module _ {n i j : ℕ} (h : x ≡ Printable n i j) where
       pub printable-parted : Framed s m o (take n after) i j
-      printable-parted = parted (reads-printable g h .stands)
+      printable-parted = parted (printable-stands g h)
 
       pub printable-ran : (r : Answer) (m′ o′ : List ℕ) →
           outcome r m′ o′ ≡ runFrame s m o (frame (part i j (take n after)) (blocksAt (take n after) j)) → outcome r m′ o′ ≡ runFrame s m o (read f)
-      printable-ran = answered (reads-printable g h .stands)
+      printable-ran = answered (printable-stands g h)
 
   -- the same without a room
   module _ (p : isPrintable f ≡ false) {x : Read} (e : x ≡ bareRead f) where
@@ -88,35 +89,36 @@ module _ {s : Settings} {m o : List ℕ} (y : Ready s m o) (f : List ℕ) where
 
     module _ {i j : ℕ} (h : x ≡ Standard i j) where
       pub bare-parted : Framed s m o f i j
-      bare-parted = parted (bare-standard f p e h)
+      bare-parted = parted (bare-stands f p e h)
 
       pub bare-ran : (r : Answer) (m′ o′ : List ℕ) → outcome r m′ o′ ≡ runFrame s m o (frame (part i j f) (blocksAt f j)) →
           outcome r m′ o′ ≡ runFrame s m o (read f)
-      bare-ran = answered (bare-standard f p e h)
+      bare-ran = answered (bare-stands f p e h)
 
     pub bare-nothing : {n i j : ℕ} → x ≡ Printable n i j → (r : Answer) → outcome r m o ≡ runFrame s m o (read f)
     bare-nothing h r = bare-never f p e h
 
 pub ruleset readied =
-    (roomed-refused, standard-parted, standard-ran, printable-parted, printable-ran, bare-none, bare-parted, bare-ran, bare-nothing, reads-within, reads-counts, needs)
+    (roomed-refused, standard-parted, standard-ran, printable-parted, printable-ran, bare-none, bare-parted, bare-ran, bare-nothing, room-within, room-counts, needs)
 
 -- ---- a whole run
 
 module _ (s : Settings) (m o f : List ℕ) (b : Bool) (e : b ≡ sound s m) where
   -- 1
-  pub run-unsound : not b ≡ true → (r : Answer) → r ≡ answerAs 1 nothing s → outcome r m o ≡ run s m o f
-  unfolding run
-  run-unsound y r q = rw (q, ← e, y)
+  pub unsound-answered : not b ≡ true → (r : Answer) → r ≡ answerAs 1 nothing s → outcome r m o ≡ run s m o f
+  unsound-answered y r q = ap (λ (x : Answer). outcome x m o) q ∙ sym (run-unsound s m o f (sym e ∙ not-true b y))
 
   module _ (y : not b ≡ false) where
+    there : sound s m ≡ true
+    there = sym e ∙ not-false b y
+
     -- 2
-    pub run-short : length o < length m + 64 → (r : Answer) → r ≡ answerAs 2 nothing s → outcome r m o ≡ run s m o f
-    unfolding run
-    run-short l r q = rw (q, ← e, y, lt-ltb (length o) (length m + 64) l)
+    pub short-answered : length o < length m + 64 → (r : Answer) → r ≡ answerAs 2 nothing s → outcome r m o ≡ run s m o f
+    short-answered l r q = ap (λ (x : Answer). outcome x m o) q ∙ sym (run-short s m o f there (lt-ltb (length o) (length m + 64) l))
 
     module _ (l : length m + 64 ≤ length o) where
       pub run-ready : Ready s m o
-      run-ready = record { sound = sym e ∙ not-false b y; room = l }
+      run-ready = record { sound = there; room = l }
 
       pub run-on : (r : Answer) (m′ o′ : List ℕ) → outcome r m′ o′ ≡ runFrame s m o (read f) → outcome r m′ o′ ≡ run s m o f
       unfolding run
@@ -125,4 +127,4 @@ module _ (s : Settings) (m o f : List ℕ) (b : Bool) (e : b ≡ sound s m) wher
 pub run-other : (f : List ℕ) (t : Bool) → t ≡ isPrintable f → t ≡ false → isPrintable f ≡ false
 run-other f t e h = sym e ∙ h
 
-pub ruleset answering = (run-unsound, run-short, run-ready, run-on, run-other, needs)
+pub ruleset answering = (unsound-answered, short-answered, run-ready, run-on, run-other, needs)

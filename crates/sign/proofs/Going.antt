@@ -1,33 +1,30 @@
 -- What holds while the blocks of a body are run one after another, and its steps.
 use Prim.Native.Nat.{ℕ, _+_, _-_, _<_, _≤_}
-use mathlib.Core.Path.{_≡_, refl, sym, ap, _∙_, subst}
+use mathlib.Core.Path.{_≡_, refl, sym, ap, _∙_}
 use mathlib.Core.Bool.{Bool, true}
 use mathlib.Core.List.{List, _∷_}
 use native.Mathlib.Omega.{arith}
 use borrow.Author.Needs.{needs}
 use lib.ListN.{length, drop}
-use Rattle.octets.specs.Choice.{_is_, all}
-use Rattle.octets.specs.Bytes.{BLOCKS, isPlain}
+use Rattle.octets.specs.Choice.{_is_, part}
+use Rattle.octets.specs.Bytes.{BLOCKS}
 use Rattle.octets.proofs.Tests.{choice, never}
 use Rattle.body.specs.Body.{Block, block, Body, badBody, body, prepend, blocks}
-use Rattle.body.specs.Steps.{foundAt}
-use Rattle.body.specs.Walking.{part, blocksIn, isBody, bodyAt, blocksAt}
+use Rattle.body.specs.Steps.{foundAt, blocksIn, isBody, bodyAt, blocksAt}
 use Rattle.body.specs.declared.BlockStep.{BlockStep}
 use Rattle.body.specs.declared.BlockStep.the-variants.{Stray, More, Last}
-use Rattle.body.proofs.Taken.{anything, all-anything, BodyOf, blocks-of}
-use Rattle.body.proofs.BlockLoops.{more-ordered, more-inside, last-ordered, last-inside}
-use Rattle.body.proofs.BlockLoops.{blocks-stray, blocks-last, blocks-more, blocks-none}
+use Rattle.frame.proofs.Stepping.{stray-blocks, more-ordered, more-inside, more-plain, more-blocks, last-ordered, last-inside, last-blocks, none-blocks}
 use Rattle.board.specs.Soundness.{sound}
 use Rattle.board.specs.declared.Settings.{Settings}
 use Rattle.effects.specs.Effects.{board}
 use Rattle.commands.specs.Blocks.{runBlock}
-use Rattle.commands.specs.Doing.{Does}
-use Rattle.effects.specs.Leaving.{Ready}
+use Rattle.commands.specs.InnerDoing.{Does}
+use Rattle.effects.specs.InnerLeaving.{Ready}
 use Rattle.effects.specs.declared.Done.{Done}
 use Rattle.keeping.specs.Keeping.{Sound}
-use Rattle.keeping.proofs.Keeping.{block-effects}
+use Rattle.keeping.proofs.Keeping.{block-keeps}
 use Rattle.sign.specs.Run.{nothing, count, measure, State, state, onto, runBlocks}
-use Rattle.sign.specs.Running.{stateAs, Runnable, Running}
+use Rattle.sign.specs.InnerRunning.{stateAs, Runnable, Running}
 use Rattle.sign.specs.declared.Tally.{Tally}
 use Rattle.sign.specs.declared.run.Ran.{Ran}
 
@@ -73,12 +70,6 @@ unfolding isBody prepend blocksIn
 blocks-behind k badBody h = never (sym h)
 blocks-behind k (body bs) h = refl
 
--- what stands in a body that was read is plain
-plain-front : (k : Block) (x : Body) (n : ℕ) → isBody x ≡ true → BodyOf anything n (prepend k x) → all isPlain (k .text) ≡ true
-unfolding isBody prepend
-plain-front k badBody n h g = never (sym h)
-plain-front k (body bs) n h g = g .plain .0 .following
-
 -- ---- the blocks
 
 -- the counts, memory and reply buffer so far, the place of the next block and how many may stand from there on:
@@ -106,17 +97,17 @@ module _ {s : Settings} {m₀ o₀ t : List ℕ} {from : ℕ} {m o : List ℕ} {
   never-bad h = never (sym (sym (ap isBody h) ∙ g .good))
 
   pub going-end : left ≤ 0 → stateAs r m o ≡ runBlocks (state (board s m₀) o₀ nothing) (blocksAt t from)
-  going-end p = never-bad (blocks-none (drop at t) left p)
+  going-end p = never-bad (none-blocks (drop at t) left p)
 
   module _ (p : 0 < left) (x : BlockStep) (e : x ≡ foundAt t at) where
     pub going-stray : x ≡ Stray → stateAs r m o ≡ runBlocks (state (board s m₀) o₀ nothing) (blocksAt t from)
-    going-stray h = never-bad (blocks-stray t at x e h left p)
+    going-stray h = never-bad (stray-blocks t at x e h left p)
 
     module _ {c i j : ℕ} {k : Bool} {r′ : Ran} {m′ o′ : List ℕ}
         (f : stateAs r′ m′ o′ ≡ onto (stateAs r m o) (runBlock (board (r .settings) m) (block c (part i j t) k))) where
       pub going-last : x ≡ Last c i j k → stateAs r′ m′ o′ ≡ runBlocks (state (board s m₀) o₀ nothing) (blocksAt t from)
       unfolding runBlocks blocksIn
-      going-last h = f ∙ sym (ap (λ (y : Body). runBlocks (stateAs r m o) (blocksIn y)) (blocks-last t at x e h left p)) ∙ g .same
+      going-last h = f ∙ sym (ap (λ (y : Body). runBlocks (stateAs r m o) (blocksIn y)) (last-blocks t at x e h left p)) ∙ g .same
 
       module _ {n : ℕ} (h : x ≡ More c i j k n) where
         b : Block
@@ -127,7 +118,7 @@ module _ {s : Settings} {m₀ o₀ t : List ℕ} {from : ℕ} {m o : List ℕ} {
 
         here : blocks left (drop at t) ≡ prepend b rest
         unfolding b rest
-        here = blocks-more t at x e h left p
+        here = more-blocks t at x e h left p
 
         rest-good : isBody rest ≡ true
         rest-good = good-behind b rest (sym (ap isBody here) ∙ g .good)
@@ -137,13 +128,9 @@ module _ {s : Settings} {m₀ o₀ t : List ℕ} {from : ℕ} {m o : List ℕ} {
         unfolding runBlocks
         ahead = sym (ap (λ (y : Body). runBlocks (stateAs r m o) (blocksIn y)) here ∙ ap (runBlocks (stateAs r m o)) (blocks-behind b rest rest-good))
 
-        plain-here : all isPlain (part i j t) ≡ true
-        unfolding b
-        plain-here = plain-front b rest left rest-good (subst (BodyOf anything left) here (blocks-of anything left (drop at t) (all-anything (drop at t))))
-
         sound-after : Sound (board (r′ .settings) m′)
         unfolding b onto
-        sound-after = ap (λ (y : State). sound (y .now .settings) (y .now .memory)) f ∙ block-effects (board (r .settings) m) b .sound plain-here (g .ready .sound)
+        sound-after = ap (λ (y : State). sound (y .now .settings) (y .now .memory)) f ∙ block-keeps (board (r .settings) m) b .sound (more-plain t at x e h) (g .ready .sound)
 
         pub going-more : length m′ ≡ length m → length o′ ≡ length o → Going s m₀ o₀ t from m′ o′ n (left - 1) r′
         unfolding b rest onto

@@ -2,11 +2,11 @@
 pub mod Adding
 pub mod RunLaws
 pub mod Steady
-pub mod PortErrors
+pub mod ErrorsLaws
 pub mod PackingLaws
 pub mod Alike
 pub mod Unique
 pub mod Counting
-pub mod Making
+pub mod FreshLaws
 pub mod Going
 pub mod Answering

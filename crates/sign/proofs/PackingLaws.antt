@@ -12,7 +12,7 @@ use Rattle.header.specs.Addressing.{addressed}
 use Rattle.body.specs.Body.{Block, isRead, readNotLast}
 use Rattle.reading.specs.Reading.{Reading, refused, frame, read}
 use Rattle.reading.specs.Capitals.{inCapitals}
-use Rattle.reading.proofs.InCapitals.{capitals-plain}
+use Rattle.frame.proofs.Frames.{capitals-good}
 use Rattle.board.specs.Soundness.{sound}
 use Rattle.board.specs.declared.Settings.{Settings}
 use Rattle.effects.specs.Effects.{board}
@@ -21,8 +21,8 @@ use Rattle.sign.specs.Packing.{setsNoAddress, next}
 use Rattle.sign.specs.declared.Tally.{Tally}
 use Rattle.sign.proofs.Alike.{run-capitals}
 use Rattle.sign.proofs.Adding.{plus, together, Packed}
-use Rattle.sign.proofs.RunLaws.{upon, counts-join, none-zero}
-use Rattle.sign.proofs.Steady.{NoReads, SetsNone, run-passed, run-steady, run-unsound}
+use Rattle.sign.proofs.RunLaws.{upon, counts-join, none-zero, run-unsound, run-short}
+use Rattle.sign.proofs.Steady.{NoReads, SetsNone, run-passed, run-steady}
 
 -- ---- a read is only the last block: so there is none before others
 
@@ -42,10 +42,6 @@ none-before x (b ∷ bs) cs n e =
 
 module _ (s : Settings) (m o f : List ℕ) where
   module _ (e : sound s m ≡ true) where
-    run-short : (length o <? length m + 64) ≡ true → run s m o f ≡ untouched 2 s m o
-    unfolding run
-    run-short g = rw (e, g)
-
     module _ (g : (length o <? length m + 64) ≡ false) (h : List ℕ) (ks : List Block) (r : inCapitals (read f) ≡ frame h ks) where
       run-read : run s m o f ≡ runFrame s m o (frame h ks)
       unfolding run
@@ -93,7 +89,7 @@ module _ (s : Settings) (m o f g j h : List ℕ) (bs cs : List Block)
       unfolding start first
       quiet =
           run-passed bs start .quiet
-          (none-before false bs cs (capitals-plain g h cs rg .blocks .some) (capitals-plain j h (bs ++ cs) rj .reads))
+          (none-before false bs cs (capitals-good g h cs rg .some) (capitals-good j h (bs ++ cs) rj .reads))
 
       ran-first : run s m o f ≡ ran first
       unfolding start first
@@ -106,7 +102,7 @@ module _ (s : Settings) (m o f g j h : List ℕ) (bs cs : List Block)
           let adr : first .now .settings .address ≡ s .address =
           sym (ap (λ (x : Outcome). x .answer .settings .address) ran-first) ∙ still in
           ap (λ (x : Outcome). next x g) ran-first
-          ∙ run-here (first .now .settings) (first .now .memory) (first .buffer) g (p .sound (capitals-plain f h bs rf .blocks .plain) e)
+          ∙ run-here (first .now .settings) (first .now .memory) (first .buffer) g (p .sound (capitals-good f h bs rf .plain) e)
           (rw (quiet .0, p .memory) l) h cs rg (rw (p .own, adr) a)
 
       ran-both : run s m o j ≡ ran (upon (first .counts) later)

@@ -1,4 +1,5 @@
--- Runs over joined blocks, and what the counts of a run are: the numbers of blocks of each outcome.
+-- Runs that are refused before their frame is read; runs over joined blocks; and what the counts of a run are: the numbers of blocks of each
+-- outcome.
 use Prim.Native.Nat.{ℕ, suc, _+_}
 use mathlib.Core.Path.{_≡_, refl, sym, ap, _∙_, subst}
 use mathlib.Core.List.{List, [], _∷_, _++_}
@@ -16,10 +17,23 @@ use Rattle.board.specs.Soundness.{sound}
 use Rattle.board.specs.declared.Settings.{Settings}
 use Rattle.effects.specs.Effects.{Board, board, Effect}
 use Rattle.commands.specs.Blocks.{runBlock}
-use Rattle.sign.specs.Run.{tally, nothing, count, measure, State, state, onto, runBlocks, Outcome, runFrame, run}
+use Rattle.sign.specs.Run.{tally, nothing, count, measure, State, state, onto, runBlocks, Outcome, untouched, runFrame, run}
 use Rattle.sign.specs.Counts.{blockNumbers, doneIn, refusedIn, reasonIn, placeIn, Counts}
 use Rattle.sign.proofs.Adding.{plus}
 use Rattle.sign.specs.declared.Tally.{Tally}
+
+-- ---- refused before the frame is read
+
+module _ (s : Settings) (m o f : List ℕ) where
+  -- 1 "board not sound"
+  pub run-unsound : sound s m ≡ false → run s m o f ≡ untouched 1 s m o
+  unfolding run
+  run-unsound e = rw e
+
+  -- 2 "reply buffer shorter than memory plus 64"
+  pub run-short : sound s m ≡ true → (length o <? length m + 64) ≡ true → run s m o f ≡ untouched 2 s m o
+  unfolding run
+  run-short e g = rw (e, g)
 
 -- ---- runs join
 

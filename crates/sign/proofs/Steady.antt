@@ -13,9 +13,8 @@ use Rattle.octets.proofs.Buffers.{length-zeros}
 use Rattle.buffers.proofs.Splices.{overlay-none, length-overlay}
 use Rattle.header.specs.Addressing.{isOwnType, addressed}
 use Rattle.body.specs.Body.{Block, isRead}
-use Rattle.body.proofs.Plain.{Plain}
 use Rattle.reading.specs.Reading.{Reading, refused, frame, read}
-use Rattle.reading.proofs.FrameLaws.{read-plain}
+use Rattle.frame.proofs.Frames.{PlainBlocks, read-good}
 use Rattle.temperature.specs.Offset.{isOffset}
 use Rattle.register.specs.Register.{bit, isRegister}
 use Rattle.board.specs.Settings.{inRange, withFiles}
@@ -30,17 +29,18 @@ use Rattle.board.proofs.Indexing.{index-true, index-one}
 use Rattle.board.proofs.SoundParts.{whole, kept-true, sound-whole}
 use Rattle.effects.specs.Effects.{Board, board}
 use Rattle.effects.specs.Recording.{faultNoted}
-use Rattle.effects.proofs.Faults.{fault-stays}
+use Rattle.effects.proofs.RecordingLaws.{fault-stays}
 use Rattle.commands.specs.Blocks.{runBlock}
 use Rattle.special.specs.Special.{setsAddress}
 use Rattle.keeping.specs.Keeping.{clears, Sound}
-use Rattle.keeping.proofs.Keeping.{block-effects}
+use Rattle.keeping.proofs.Keeping.{block-keeps}
 use Rattle.sign.specs.Run.{nothing, count, measure, State, state, onto, runBlocks, Outcome, untouched, runFrame, run}
 use Rattle.sign.specs.Fresh.{Making, freshSettings, fresh}
 use Rattle.sign.specs.Packing.{setsNoAddress}
 use Rattle.sign.specs.Errors.{errorsBehind, errorsThrough, clearsNone}
 use Rattle.sign.specs.Counts.{blockNumbers}
 use Rattle.sign.specs.declared.Tally.{Tally}
+use Rattle.sign.proofs.RunLaws.{run-unsound}
 
 -- ---- blocks
 
@@ -54,7 +54,7 @@ pub record Passed (ks : List Block) (st x : State) : Type 0 where
   pub own : x .now .settings .own ≡ st .now .settings .own
   pub memory : length (x .now .memory) ≡ length (st .now .memory)
   pub buffer : length (st .now .memory) + 64 ≤ length (st .buffer) → length (x .buffer) ≡ length (st .buffer)
-  pub sound : Plain ks → Sound (st .now) → Sound (x .now)
+  pub sound : PlainBlocks ks → Sound (st .now) → Sound (x .now)
   pub address : setsNoAddress ks ≡ true → x .now .settings .address ≡ st .now .settings .address
   pub errors : x .now .settings .errors ≡ errorsThrough (st .now .settings .errors) ks (blockNumbers (st .now) ks)
   pub quiet : NoReads ks → (x .buffer ≡ st .buffer) × (x .counts .length ≡ st .counts .length)
@@ -71,7 +71,7 @@ length-none t n s e =
 block-errors : (b : Board) (k : Block) → runBlock b k .after .settings .errors ≡ errorsBehind (b .settings .errors) k (runBlock b k .number)
 unfolding errorsBehind faultNoted
 block-errors b k =
-    let f = block-effects b k in
+    let f = block-keeps b k in
     let x = runBlock b k in
     by-test (x .number is 0)
     (λ e. let z = eqb-true (x .number) 0 e in f .errors z ∙ rw z)
@@ -103,7 +103,7 @@ run-passed [] st =
     }
 run-passed (k ∷ ks) st =
     let x = runBlock (st .now) k in
-    let f = block-effects (st .now) k in
+    let f = block-keeps (st .now) k in
     let i = run-passed ks (onto st x) in
     record {
       own = i .own ∙ f .own;
@@ -160,7 +160,7 @@ frame-steady s m o f l (frame h bs) e =
       own = p .own;
       memory = p .memory;
       reply = p .buffer l;
-      sound = λ g. p .sound (read-plain f h bs e .blocks .plain) g;
+      sound = λ g. p .sound (read-good f h bs e .plain) g;
       address = p .address;
       errors = λ z. p .errors;
       refused = λ n. absurd (n refl);
@@ -173,11 +173,6 @@ run-steady s m o f =
     choice (Steady s m o (read f)) (not (sound s m)) (λ e. untouched-steady s m o (read f) 1 (λ z. absurd (omega arith)))
     (λ e. choice (Steady s m o (read f)) (length o <? length m + 64) (λ g. untouched-steady s m o (read f) 2 (λ z. absurd (omega arith)))
     (λ g. frame-steady s m o f (ltb-false (length o) (length m + 64) g) (read f) refl))
-
--- 1 "board not sound"
-pub run-unsound : (s : Settings) (m o f : List ℕ) → sound s m ≡ false → run s m o f ≡ untouched 1 s m o
-unfolding run
-run-unsound s m o f e = rw e
 
 -- a run leaves a sound board sound
 pub run-sound : (s : Settings) (m o f : List ℕ) → sound s m ≡ true →

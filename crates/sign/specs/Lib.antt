@@ -4,4 +4,4 @@ pub mod Fresh
 pub mod Errors
 pub mod Counts
 pub mod Packing
-pub mod Running
+pub mod InnerRunning

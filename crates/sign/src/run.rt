@@ -18,16 +18,17 @@ use octets::bytes::BLOCKS;
 ghost use mathlib.Core.Path.{_≡_};
 ghost use mathlib.Core.Bool.{false};
 ghost use Prim.Native.Nat.{_+_, _<_};
+ghost use Rattle.octets.specs.Choice.{part};
 ghost use Rattle.octets.specs.Bytes.{BLOCKS};
 ghost use Rattle.body.specs.Body.{block};
-ghost use Rattle.body.specs.Walking.{part, blocksAt};
+ghost use Rattle.body.specs.Steps.{blocksAt};
 ghost use Rattle.reading.specs.Reading.{frame, read};
 ghost use Rattle.reading.specs.Places.{isPrintable};
 ghost use Rattle.effects.specs.Effects.{board};
-ghost use Rattle.effects.specs.Leaving.{Ready};
+ghost use Rattle.effects.specs.InnerLeaving.{Ready};
 ghost use Rattle.commands.specs.Blocks.{runBlock};
 ghost use Rattle.sign.specs.Run.{nothing, count, measure, state, onto, runBlocks, outcome, runFrame, run};
-ghost use Rattle.sign.specs.Running.{answerAs, Runnable, Running, Framed, stateAs};
+ghost use Rattle.sign.specs.InnerRunning.{answerAs, Runnable, Running, Framed, stateAs};
 
 // "reply buffer shorter than memory plus 64"
 const REPLY_ROOM: usize = 64;
@@ -202,7 +203,10 @@ fn run_roomed(s: Settings, m: &mut [u8], out: &mut [u8], bytes: &[u8]) -> Answer
             length,
             header,
             body,
-        } => return run_frame(s, m, out, &room[..length], header, body),
+        } => {
+            let translated = &room[..length];
+            return run_frame(s, m, out, translated, header, body);
+        }
     }
 }
 

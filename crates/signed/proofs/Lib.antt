@@ -1,4 +1,4 @@
 -- Laws of signed numbers.
 pub mod Held
-pub mod Bits
-pub mod Twelve
+pub mod PlainLaws
+pub mod FloorLaws

@@ -16,13 +16,13 @@ use Rattle.octets.specs.Choice.{_is_, _≤?_, _!_, all, same}
 use Rattle.octets.specs.Bytes.{ZERO, F}
 use Rattle.octets.specs.Decimal.{isDecimal, decimal2}
 use Rattle.octets.specs.Carried.{capitals}
-use Rattle.octets.specs.Digits.{two}
+use Rattle.octets.specs.InnerDigits.{two}
 use Rattle.octets.specs.declared.hex.Two.{Two}
 use Rattle.octets.specs.declared.hex.Two.the-variants.{Value, Bad}
 use Rattle.octets.proofs.Tests.{and-none, and-some}
 use Rattle.octets.proofs.Told.{two-none, two-some}
 use Rattle.signed.proofs.Held.{held}
-use Rattle.temperature.proofs.Signs.{two-long, second-digit}
+use Rattle.temperature.proofs.OffsetLaws.{two-long, second-digit}
 use Rattle.temperature.specs.Offset.{isSignedDigit, signedDigit}
 use Rattle.board.specs.Settings.{FORMAT-S, FORMAT-M, OFF, ON, inDate, withTime, withDate, withFormat, withSpeaker, withAddress, withOffset, cleared}
 use Rattle.board.specs.declared.Settings.{Settings}
@@ -30,8 +30,8 @@ use Rattle.effects.specs.Effects.{board}
 use Rattle.special.specs.Configuration.{configure}
 use Rattle.special.specs.Special.{TIME, SPEAKER, CONFIGURATION, FORMAT, ADDRESS, DATE, OFFSET, CLEAR}
 use Rattle.special.specs.Special.{Change, to, malformed, unknown, setTime, setSpeaker, setFormat, setDate, setAddress, setOffset, clearErrors, setBy, change, writeSpecial}
-use Rattle.effects.specs.Leaving.{doneAs, Acts}
-use Rattle.special.specs.Changing.{changed}
+use Rattle.effects.specs.InnerLeaving.{doneAs, Acts}
+use Rattle.special.specs.InnerChanging.{changed}
 use Rattle.effects.specs.declared.Done.{Done}
 use Rattle.effects.proofs.Outcomes.{acts-refused}
 

@@ -31,7 +31,7 @@ use Rattle.effects.specs.Reply.{replyOf}
 use Rattle.effects.specs.Effects.{Board, board, replied, refuse}
 use Rattle.special.specs.Special.{TIME, SPEAKER, POOL, CONFIGURATION, FORMAT, DATE, ERRORS}
 use Rattle.special.specs.Special.{tellTime, tellDate, tellSpeaker, tellPool, isTold, tell, afterTold, readSpecial}
-use Rattle.effects.specs.Leaving.{doneAs, Replied, Told, Tells, Ready}
+use Rattle.effects.specs.InnerLeaving.{doneAs, Replied, Told, Tells, Ready}
 use Rattle.effects.specs.declared.Done.{Done}
 use Rattle.effects.proofs.ReplyLengths.{reply-length}
 use Rattle.special.proofs.TellLengths.{told-fits}

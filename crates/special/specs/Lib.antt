@@ -1,4 +1,4 @@
 -- The special functions.
 pub mod Configuration
 pub mod Special
-pub mod Changing
+pub mod InnerChanging

@@ -10,7 +10,7 @@ ghost use mathlib.Core.Bool.{true};
 ghost use Rattle.board.specs.Soundness.{sound};
 ghost use Rattle.effects.specs.Effects.{board};
 ghost use Rattle.special.specs.Configuration.{configure};
-ghost use Rattle.effects.specs.Leaving.{Acts};
+ghost use Rattle.effects.specs.InnerLeaving.{Acts};
 
 // The list is refused, or all files are replaced.
 pub fn configure(s: Settings, m: &mut [u8], d: &[u8]) -> Done

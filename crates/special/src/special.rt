@@ -40,8 +40,8 @@ ghost use Rattle.board.specs.Files.{filesOf, heads};
 ghost use Rattle.board.specs.Soundness.{holdsFiles, sound};
 ghost use Rattle.effects.specs.Effects.{board};
 ghost use Rattle.special.specs.Special.{setTime, setSpeaker, setFormat, setDate, setAddress, setOffset, clearErrors, setBy, writeSpecial, tellTime, tellDate, tellSpeaker, tellPool, isTold, tell, afterTold, readSpecial};
-ghost use Rattle.special.specs.Changing.{changed};
-ghost use Rattle.effects.specs.Leaving.{Told, Acts, Tells, Ready};
+ghost use Rattle.special.specs.InnerChanging.{changed};
+ghost use Rattle.effects.specs.InnerLeaving.{Told, Acts, Tells, Ready};
 
 // the function labels
 const TIME: u8 = 0x20;

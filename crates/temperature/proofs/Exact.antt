@@ -12,7 +12,7 @@ use Rattle.signed.specs.Between.{fromTo}
 use Rattle.temperature.specs.Offset.{isOffset}
 use Rattle.temperature.specs.Correcting.{isReading, addOffset}
 use Rattle.temperature.specs.declared.Corrected.{Corrected}
-use Rattle.temperature.proofs.Sums.{below, reading-mag}
+use Rattle.temperature.proofs.CorrectingLaws.{below, reading-mag}
 
 -- a difference of plain numbers is no larger than either
 mag-apart : (a b k : ℕ) → a ≤ k → b ≤ suc k → mag (subℕ a b) ≤ k

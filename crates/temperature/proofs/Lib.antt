@@ -1,6 +1,6 @@
 -- Laws of the temperature offset and of corrected readings.
-pub mod Signs
-pub mod Sums
+pub mod OffsetLaws
+pub mod CorrectingLaws
 pub mod Spelling
 pub mod Exact
 pub mod Unique

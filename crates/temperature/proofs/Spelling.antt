@@ -10,8 +10,8 @@ use Rattle.octets.specs.Choice.{_is_, _!_}
 use Rattle.octets.specs.Decimal.{isDecimal}
 use Rattle.octets.proofs.Tests.{choice}
 use Rattle.temperature.specs.Offset.{PLUS, MINUS, isSignedDigit, signedDigit, isOffset}
-use Rattle.temperature.proofs.Signs.{second-digit, digit-most}
-use Rattle.temperature.proofs.Sums.{offset-mag, below}
+use Rattle.temperature.proofs.OffsetLaws.{second-digit, digit-most}
+use Rattle.temperature.proofs.CorrectingLaws.{offset-mag, below}
 
 -- one of ten, without and with "-"
 ten : (n : ℕ) → n ≤ 9 → (isOffset (pos n) ≡ true) × (isOffset (negℤ (pos n)) ≡ true)

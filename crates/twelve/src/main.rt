@@ -163,7 +163,7 @@ fn separate(memory: &mut [u8], reply: &mut [u8]) -> Sum {
 }
 
 // The frame so far and the next one joined.
-fn join_parts(form: u8, a: &[u8], n: usize, b: &[u8], m: usize, out: &mut [u8]) -> writing::Written
+fn join_parts(form: u8, a: &[u8], n: usize, b: &[u8], m: usize, out: &mut [u8]) -> frame::Written
     requires { ⌜ (n ≤ 65536) × (m ≤ 65536) ⌝ }
 {
     let i = io::count(n as isize, a);

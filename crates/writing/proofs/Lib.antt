@@ -1,11 +1,10 @@
 -- Laws of the calls that write, and what the functions go by.
-pub mod Computing
-pub mod Answers
-pub mod BlockWalks
+pub mod OutputLaws
+pub mod BlocksLaws
 pub mod Results
 pub mod Reckonings
-pub mod WriteLaws
+pub mod WritingLaws
 pub mod PartLaws
-pub mod ReformLaws
-pub mod JoinLaws
+pub mod ReformingLaws
+pub mod JoiningLaws
 pub mod Unique

@@ -6,16 +6,17 @@ use Prim.Native.Nat.{ℕ, _≤_}
 use native.Mathlib.Omega.{arith}
 use borrow.Author.Tests.{not-true, not-false}
 use lib.ListN.{length, take}
+use Rattle.octets.specs.Choice.{part}
 use Rattle.octets.specs.Bytes.{TRANSLATED}
 use Rattle.header.specs.Capitals.{headerCapitals}
 use Rattle.body.specs.Body.{allRight}
-use Rattle.body.specs.Walking.{part, blocksAt}
-use Rattle.body.specs.declared.judging.Survey.{Survey}
+use Rattle.body.specs.Steps.{blocksAt}
+use Rattle.body.specs.declared.surveying.Survey.{Survey}
 use Rattle.reading.specs.Lead.{leadOf}
 use Rattle.reading.specs.Reading.{Reading, refused, frame, readLed, read}
 use Rattle.reading.specs.Capitals.{inCapitals}
 use Rattle.reading.specs.Places.{isPrintable}
-use Rattle.reading.specs.Walking.{partPlaces, partsView, Translates}
+use Rattle.reading.specs.InnerParts.{partPlaces, partsView, Translates}
 use Rattle.reading.specs.declared.reading.Parts.{Parts}
 use Rattle.reading.specs.declared.reading.Parts.the-variants.{At, Refused}
 use Rattle.reading.specs.declared.reading.Translated.{Translated}
@@ -25,7 +26,7 @@ use Rattle.reading.proofs.Viewing.{Told, stands-good, standard-view, standard-t
 use Rattle.writing.specs.declared.Written.{Written}
 use Rattle.writing.specs.Output.{Output, output, writtenAs, unwritten}
 use Rattle.writing.specs.Reforming.{checked}
-use Rattle.writing.specs.Sources.{Parted, PartsOf}
+use Rattle.writing.specs.InnerSources.{Parted, PartsOf}
 use Rattle.writing.proofs.Reckonings.{seen-right}
 
 -- ---- the parts of a frame

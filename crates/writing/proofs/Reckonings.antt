@@ -10,24 +10,24 @@ use borrow.Author.Needs.{needs}
 use borrow.Author.Tests.{ne-eqb}
 use lib.ListN.{length, take, drop, length-take, length-drop, length-append}
 use lib.Seq.{take-all}
-use Rattle.octets.specs.Choice.{_is_, _isn't_, _!_}
+use Rattle.octets.specs.Choice.{_is_, _isn't_, _!_, part}
 use Rattle.octets.specs.Bytes.{STX, ETX, EOT, BLOCKS}
 use Rattle.octets.proofs.Counts.{count-few}
 use Rattle.octets.proofs.Tests.{choice, by-test, never}
 use Rattle.header.specs.Capitals.{headerCapitals}
-use Rattle.header.proofs.InCapitals.{header-long}
+use Rattle.header.proofs.CapitalsLaws.{header-long}
 use Rattle.body.specs.Body.{Block, Body, badBody, body, blocks, hasRead, allRight}
-use Rattle.body.specs.Surveying.{surveyed, textBytes}
-use Rattle.body.specs.Taking.{behindData, takenAt}
-use Rattle.body.specs.Walking.{part, isBody, blocksIn, bodyAt, blocksAt}
-use Rattle.body.specs.declared.judging.Survey.{Survey}
+use Rattle.body.specs.InnerSurveying.{surveyed, textBytes}
+use Rattle.body.specs.InnerTaking.{behindData, takenAt}
+use Rattle.body.specs.Steps.{isBody, blocksIn, bodyAt, blocksAt}
+use Rattle.body.specs.declared.surveying.Survey.{Survey}
 use Rattle.body.proofs.Plain.{Plain}
-use Rattle.body.proofs.Surveys.{survey-count, survey-right, survey-read, survey-bytes}
-use Rattle.body.proofs.Takings.{Stand, stand-at}
-use Rattle.forms.specs.Lengths.{isEscaped, escapes}
+use Rattle.body.proofs.SurveyingLaws.{survey-count, survey-right, survey-read, survey-bytes}
+use Rattle.body.proofs.TakingLaws.{Stand, stand-at}
+use Rattle.forms.specs.InnerLengths.{isEscaped, escapes}
 use Rattle.forms.proofs.Escapes.{escapes-body}
-use Rattle.forms.proofs.LengthLaws.{header-itself, text-append, escapes-append}
-use Rattle.writing.specs.Sources.{Source, Parted, Headed, Paired, Reckoned, escapesIn, fitted, answered}
+use Rattle.forms.proofs.FormLengths.{header-itself, text-append, escapes-append}
+use Rattle.writing.specs.InnerSources.{Source, Parted, Headed, Paired, Reckoned, escapesIn, fitted, answered}
 use Rattle.writing.specs.declared.Written.{Written}
 use Rattle.writing.proofs.Results.{blocks-good, fitted-by, delivering}
 

@@ -10,24 +10,24 @@ use borrow.Author.Tests.{eqb-true, ne-eqb, ltb-false}
 use lib.Dec.{lit≤}
 use lib.ListN.{length, drop, length-append}
 use lib.Seq.{sets-eq}
-use Rattle.octets.specs.Choice.{_is_, _<?_, all}
+use Rattle.octets.specs.Choice.{_is_, _<?_, all, part}
 use Rattle.octets.specs.Buffer.{overlay}
 use Rattle.octets.specs.Bytes.{EOT, BLOCKS, TRANSLATED}
 use Rattle.octets.proofs.Tests.{by-test, never}
 use Rattle.header.specs.Capitals.{headerCapitals}
 use Rattle.body.specs.Body.{Block, block, Body, badBody, body, blocks}
-use Rattle.body.specs.Surveying.{textBytes}
-use Rattle.body.specs.Walking.{part, isBody, blocksIn, bodyAt, blocksAt}
+use Rattle.body.specs.InnerSurveying.{textBytes}
+use Rattle.body.specs.Steps.{isBody, blocksIn, bodyAt, blocksAt}
 use Rattle.body.proofs.Plain.{Plain}
-use Rattle.body.proofs.Taken.{anything, all-anything, Blocks, BodyOf, blocks-of}
+use Rattle.body.proofs.WellFormed.{anything, all-anything, Blocks, BodyOf, blocks-of}
 use Rattle.forms.specs.Forms.{isItself, formOf, render}
-use Rattle.forms.specs.Lengths.{blockEscapes, renderLength}
-use Rattle.forms.specs.Pieces.{Takes, Puts, encode, piece, pieces, heading, headed}
-use Rattle.forms.proofs.LengthLaws.{form-length, render-length}
+use Rattle.forms.specs.InnerLengths.{blockEscapes, renderLength}
+use Rattle.forms.specs.InnerPieces.{Takes, Puts, encode, piece, pieces, heading, headed}
+use Rattle.forms.proofs.FormLengths.{form-length, render-length}
 use Rattle.forms.proofs.PieceLaws.{pieces-append, render-headed}
-use Rattle.forms.proofs.Puttings.{puts-as, joined, takes-front, takes-behind}
+use Rattle.forms.proofs.FormsLaws.{puts-as, joined, takes-front, takes-behind}
 use Rattle.writing.specs.Output.{isOver, output, writtenAs, putNumber, put}
-use Rattle.writing.specs.Sources.{Headed, Paired, Puttable, escapesIn, fitted, answered}
+use Rattle.writing.specs.InnerSources.{Headed, Paired, Puttable, escapesIn, fitted, answered}
 use Rattle.writing.specs.declared.Written.{Written}
 
 -- ---- the blocks of a good body

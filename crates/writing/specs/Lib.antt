@@ -3,4 +3,4 @@ pub mod Output
 pub mod Writing
 pub mod Reforming
 pub mod Joining
-pub mod Sources
+pub mod InnerSources

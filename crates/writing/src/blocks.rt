@@ -8,11 +8,12 @@ ghost use mathlib.Core.Path.{_≡_};
 ghost use mathlib.Core.Bool.{true};
 ghost use Prim.Native.Nat.{_≤_};
 ghost use lib.ListN.{length};
+ghost use Rattle.octets.specs.Choice.{part};
 ghost use Rattle.octets.specs.Bytes.{TRANSLATED};
 ghost use Rattle.header.specs.Capitals.{headerCapitals};
-ghost use Rattle.body.specs.Walking.{part, bodyAt, blocksAt};
-ghost use Rattle.forms.specs.Pieces.{Takes, Puts, encode, pieces, headed};
-ghost use Rattle.writing.specs.Sources.{Puttable, Headed, escapesIn};
+ghost use Rattle.body.specs.Steps.{bodyAt, blocksAt};
+ghost use Rattle.forms.specs.InnerPieces.{Takes, Puts, encode, pieces, headed};
+ghost use Rattle.writing.specs.InnerSources.{Puttable, Headed, escapesIn};
 
 // The escapes among the blocks: form 3 alone needs their number. What else stands in a good body are control bytes, which are no data,
 // and digits, which stand for themselves: so all of it is looked at in a row.

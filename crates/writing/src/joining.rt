@@ -11,7 +11,7 @@ use crate::numbers::WRONG_SUM;
 use crate::output::fit;
 use crate::output::is_form;
 use crate::output::unwritten;
-use body::judging::Survey;
+use body::surveying::Survey;
 use forms::put_eot;
 use header::capitals::same_capitals;
 use reading::reading::Parts;
@@ -25,21 +25,21 @@ ghost use mathlib.Core.Bool.{true};
 ghost use mathlib.Core.List.{_++_};
 ghost use Prim.Native.Nat.{_≤_};
 ghost use lib.ListN.{length};
-ghost use Rattle.octets.specs.Choice.{same};
+ghost use Rattle.octets.specs.Choice.{same, part};
 ghost use Rattle.octets.specs.Bytes.{TRANSLATED};
 ghost use Rattle.header.specs.Capitals.{headerCapitals};
-ghost use Rattle.body.specs.Walking.{part, blocksAt};
+ghost use Rattle.body.specs.Steps.{blocksAt};
 ghost use Rattle.reading.specs.Lead.{leadOf};
 ghost use Rattle.reading.specs.Reading.{frame, readLed, read};
 ghost use Rattle.reading.specs.Capitals.{inCapitals};
 ghost use Rattle.reading.specs.Places.{isPrintable};
-ghost use Rattle.reading.specs.Walking.{partsView};
+ghost use Rattle.reading.specs.InnerParts.{partsView};
 ghost use Rattle.forms.specs.Forms.{render};
-ghost use Rattle.forms.specs.Pieces.{Takes, Puts, encode, headed};
+ghost use Rattle.forms.specs.InnerPieces.{Takes, Puts, encode, headed};
 ghost use Rattle.writing.specs.Output.{output, put};
 ghost use Rattle.writing.specs.Reforming.{checked};
 ghost use Rattle.writing.specs.Joining.{putJoined, join};
-ghost use Rattle.writing.specs.Sources.{Source, Parted, PartsOf, Paired, answered};
+ghost use Rattle.writing.specs.InnerSources.{Source, Parted, PartsOf, Paired, answered};
 
 // The first frame's header, its blocks and then the second's, in a form.
 fn put_both(

@@ -8,7 +8,7 @@ use octets::bytes::BLOCKS;
 use octets::bytes::TRANSLATED;
 ghost use mathlib.Core.Path.{_≡_};
 ghost use Rattle.writing.specs.Output.{isForm, writtenAs};
-ghost use Rattle.writing.specs.Sources.{Reckoned, fitted};
+ghost use Rattle.writing.specs.InnerSources.{Reckoned, fitted};
 
 // "form not 1, 2 or 3"
 pub fn is_form(form: u8) -> bool

@@ -7,7 +7,7 @@ use crate::numbers::WRONG_SUM;
 use crate::output::fit;
 use crate::output::is_form;
 use crate::output::unwritten;
-use body::judging::Survey;
+use body::surveying::Survey;
 use forms::put_eot;
 use reading::reading::Parts;
 use reading::reading::Translated;
@@ -19,19 +19,20 @@ ghost use mathlib.Core.Path.{_≡_};
 ghost use mathlib.Core.Bool.{true};
 ghost use Prim.Native.Nat.{_≤_};
 ghost use lib.ListN.{length};
+ghost use Rattle.octets.specs.Choice.{part};
 ghost use Rattle.octets.specs.Bytes.{TRANSLATED};
 ghost use Rattle.header.specs.Capitals.{headerCapitals};
-ghost use Rattle.body.specs.Walking.{part, blocksAt};
+ghost use Rattle.body.specs.Steps.{blocksAt};
 ghost use Rattle.reading.specs.Lead.{leadOf};
 ghost use Rattle.reading.specs.Reading.{readLed, read};
 ghost use Rattle.reading.specs.Capitals.{inCapitals};
 ghost use Rattle.reading.specs.Places.{isPrintable};
-ghost use Rattle.reading.specs.Walking.{partsView};
+ghost use Rattle.reading.specs.InnerParts.{partsView};
 ghost use Rattle.forms.specs.Forms.{render};
-ghost use Rattle.forms.specs.Pieces.{Takes, Puts};
+ghost use Rattle.forms.specs.InnerPieces.{Takes, Puts};
 ghost use Rattle.writing.specs.Output.{output, put};
 ghost use Rattle.writing.specs.Reforming.{checked, putRead, reform};
-ghost use Rattle.writing.specs.Sources.{Parted, PartsOf, Headed, answered};
+ghost use Rattle.writing.specs.InnerSources.{Parted, PartsOf, Headed, answered};
 
 // The frame whose header and body start at two places of its bytes, in a form.
 fn put_reformed(

@@ -29,10 +29,10 @@ ghost use Rattle.header.specs.Capitals.{headerCapitals};
 ghost use Rattle.body.specs.Sum.{checksum};
 ghost use Rattle.body.specs.Body.{block};
 ghost use Rattle.forms.specs.Forms.{render};
-ghost use Rattle.forms.specs.Pieces.{Takes, Puts, encode, headed};
+ghost use Rattle.forms.specs.InnerPieces.{Takes, Puts, encode, headed};
 ghost use Rattle.writing.specs.Output.{output, put};
 ghost use Rattle.writing.specs.Writing.{write};
-ghost use Rattle.writing.specs.Sources.{Writable, escapesIn, answered};
+ghost use Rattle.writing.specs.InnerSources.{Writable, escapesIn, answered};
 
 // The header and the block, in a form, with the sum that is known of it.
 fn put_single(out: &mut [u8], form: u8, h: &[u8], command: u8, text: &[u8], sum: u16) -> usize

@@ -1,4 +1,4 @@
-use Rattle.board.proofs.Entries.{placing}
+use Rattle.board.proofs.IndexLaws.{placing}
 use Rattle.board.proofs.index.count_at.Statement.{statement}
 use Rattle.board.proofs.index.count_at.Tie as tie
 

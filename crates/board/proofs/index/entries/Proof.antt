@@ -1,8 +1,8 @@
 use Prim.Native.Nat.{_-_}
 use lib.ListN.{length}
 use Rattle.octets.proofs.Counts.{Counted}
-use Rattle.board.specs.Noted.{isPlace}
-use Rattle.board.proofs.Entries.{placing}
+use Rattle.board.specs.InnerNoted.{isPlace}
+use Rattle.board.proofs.IndexLaws.{placing}
 use Rattle.board.proofs.index.entries.Statement.{statement}
 use Rattle.board.proofs.index.entries.Tie as tie
 

@@ -1,4 +1,4 @@
-use Rattle.board.proofs.Entries.{looking}
+use Rattle.board.proofs.IndexLaws.{looking}
 use Rattle.board.proofs.index.of_type.Statement.{statement}
 use Rattle.board.proofs.index.of_type.Tie as tie
 

@@ -1,4 +1,4 @@
-use Rattle.board.proofs.Entries.{entering}
+use Rattle.board.proofs.IndexLaws.{entering}
 use Rattle.board.proofs.soundness.is_entered.Statement.{statement}
 use Rattle.board.proofs.soundness.is_entered.Tie as tie
 

@@ -1,4 +1,4 @@
-use Rattle.body.proofs.StepLaws.{behindData}
+use Rattle.body.proofs.StepsLaws.{behindData}
 use Rattle.body.proofs.steps.after_data.Statement.{statement}
 use Rattle.body.proofs.steps.after_data.Tie as tie
 

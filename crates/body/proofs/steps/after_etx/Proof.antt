@@ -1,4 +1,4 @@
-use Rattle.body.proofs.StepLaws.{behindEtx}
+use Rattle.body.proofs.StepsLaws.{behindEtx}
 use Rattle.body.proofs.steps.after_etx.Statement.{statement}
 use Rattle.body.proofs.steps.after_etx.Tie as tie
 

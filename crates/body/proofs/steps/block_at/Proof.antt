@@ -1,4 +1,4 @@
-use Rattle.body.proofs.StepLaws.{finding}
+use Rattle.body.proofs.StepsLaws.{finding}
 use Rattle.body.proofs.steps.block_at.Statement.{statement}
 use Rattle.body.proofs.steps.block_at.Tie as tie
 

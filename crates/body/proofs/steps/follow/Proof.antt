@@ -1,4 +1,4 @@
-use Rattle.body.proofs.StepLaws.{following}
+use Rattle.body.proofs.StepsLaws.{following}
 use Rattle.body.proofs.steps.follow.Statement.{statement}
 use Rattle.body.proofs.steps.follow.Tie as tie
 

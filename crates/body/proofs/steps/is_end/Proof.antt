@@ -1,4 +1,4 @@
-use Rattle.body.proofs.StepLaws.{ending}
+use Rattle.body.proofs.StepsLaws.{ending}
 use Rattle.body.proofs.steps.is_end.Statement.{statement}
 use Rattle.body.proofs.steps.is_end.Tie as tie
 

@@ -1,4 +1,4 @@
-use Rattle.body.proofs.StepLaws.{behindEtx}
+use Rattle.body.proofs.StepsLaws.{behindEtx}
 use Rattle.body.proofs.steps.no_sum.Statement.{statement}
 use Rattle.body.proofs.steps.no_sum.Tie as tie
 

@@ -1,6 +1,6 @@
 use Prim.Native.Nat.{_-_}
 use lib.ListN.{length}
-use Rattle.body.proofs.Sums.{Stretching, summing}
+use Rattle.body.proofs.SumLaws.{Stretching, summing}
 use Rattle.body.proofs.sum.add_up.Statement.{statement}
 use Rattle.body.proofs.sum.add_up.Tie as tie
 

@@ -1,4 +1,4 @@
-use Rattle.body.proofs.Sums.{summing}
+use Rattle.body.proofs.SumLaws.{summing}
 use Rattle.body.proofs.sum.checksum.Statement.{statement}
 use Rattle.body.proofs.sum.checksum.Tie as tie
 

@@ -1,4 +1,4 @@
-use Rattle.body.proofs.Takings.{takings}
+use Rattle.body.proofs.TakingLaws.{takings}
 use Rattle.body.proofs.taking.take_at.Statement.{statement}
 use Rattle.body.proofs.taking.take_at.Tie as tie
 

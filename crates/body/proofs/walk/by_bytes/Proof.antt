@@ -1,6 +1,6 @@
 use lib.ListN.{length}
-use Rattle.body.specs.Walking.{left, Walks}
-use Rattle.body.proofs.Walks.{walking}
+use Rattle.body.specs.InnerWalking.{left, Walks}
+use Rattle.body.proofs.WalkLaws.{walking}
 use Rattle.body.proofs.walk.by_bytes.Statement.{statement}
 use Rattle.body.proofs.walk.by_bytes.Tie as tie
 

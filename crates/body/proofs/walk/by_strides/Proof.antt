@@ -1,7 +1,7 @@
 use Prim.Native.Nat.{_/_}
 use lib.ListN.{length}
-use Rattle.body.specs.Walking.{STRIDE, left, Walks}
-use Rattle.body.proofs.Walks.{striding}
+use Rattle.body.specs.InnerWalking.{STRIDE, left, Walks}
+use Rattle.body.proofs.WalkLaws.{striding}
 use Rattle.body.proofs.walk.by_strides.Statement.{statement}
 use Rattle.body.proofs.walk.by_strides.Tie as tie
 

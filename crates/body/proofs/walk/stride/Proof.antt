@@ -1,4 +1,4 @@
-use Rattle.body.proofs.Walks.{striding}
+use Rattle.body.proofs.WalkLaws.{striding}
 use Rattle.body.proofs.walk.stride.Statement.{statement}
 use Rattle.body.proofs.walk.stride.Tie as tie
 

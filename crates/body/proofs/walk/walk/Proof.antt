@@ -1,4 +1,4 @@
-use Rattle.body.proofs.Walks.{nearing}
+use Rattle.body.proofs.WalkLaws.{nearing}
 use Rattle.body.proofs.walk.walk.Statement.{statement}
 use Rattle.body.proofs.walk.walk.Tie as tie
 

@@ -1,4 +1,4 @@
-use Rattle.commands.proofs.Choosing.{choosing}
+use Rattle.commands.proofs.BlocksLaws.{choosing}
 use Rattle.commands.proofs.blocks.do_block.Statement.{statement}
 use Rattle.commands.proofs.blocks.do_block.Tie as tie
 

@@ -1,4 +1,4 @@
-use Rattle.commands.proofs.Choosing.{recording}
+use Rattle.commands.proofs.BlocksLaws.{recording}
 use Rattle.commands.proofs.blocks.run_block.Statement.{statement}
 use Rattle.commands.proofs.blocks.run_block.Tie as tie
 

@@ -1,4 +1,4 @@
-use Rattle.dates.proofs.Months.{months}
+use Rattle.dates.proofs.CalendarLaws.{months}
 use Rattle.dates.proofs.calendar.february.Statement.{statement}
 use Rattle.dates.proofs.calendar.february.Tie as tie
 

@@ -1,5 +1,5 @@
 use Rattle.dates.specs.Calendar.{isDate}
-use Rattle.dates.proofs.Months.{days}
+use Rattle.dates.proofs.CalendarLaws.{days}
 use Rattle.dates.proofs.calendar.is_date.Statement.{statement}
 use Rattle.dates.proofs.calendar.is_date.Tie as tie
 

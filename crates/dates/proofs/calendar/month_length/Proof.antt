@@ -1,4 +1,4 @@
-use Rattle.dates.proofs.Months.{months}
+use Rattle.dates.proofs.CalendarLaws.{months}
 use Rattle.dates.proofs.calendar.month_length.Statement.{statement}
 use Rattle.dates.proofs.calendar.month_length.Tie as tie
 

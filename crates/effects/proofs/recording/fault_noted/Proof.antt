@@ -1,4 +1,4 @@
-use Rattle.effects.proofs.Faults.{recording}
+use Rattle.effects.proofs.RecordingLaws.{recording}
 use Rattle.effects.proofs.recording.fault_noted.Statement.{statement}
 use Rattle.effects.proofs.recording.fault_noted.Tie as tie
 

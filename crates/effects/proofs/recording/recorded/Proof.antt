@@ -1,4 +1,4 @@
-use Rattle.effects.proofs.Faults.{recording}
+use Rattle.effects.proofs.RecordingLaws.{recording}
 use Rattle.effects.proofs.recording.recorded.Statement.{statement}
 use Rattle.effects.proofs.recording.recorded.Tie as tie
 

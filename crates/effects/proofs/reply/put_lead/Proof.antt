@@ -1,4 +1,4 @@
-use Rattle.effects.proofs.Around.{around}
+use Rattle.effects.proofs.ReplyLaws.{around}
 use Rattle.effects.proofs.reply.put_lead.Statement.{statement}
 use Rattle.effects.proofs.reply.put_lead.Tie as tie
 

@@ -1,4 +1,4 @@
-use Rattle.forms.proofs.Puttings.{itself}
+use Rattle.forms.proofs.FormsLaws.{itself}
 use Rattle.forms.proofs.forms.is_itself.Statement.{statement}
 use Rattle.forms.proofs.forms.is_itself.Tie as tie
 

@@ -1,4 +1,4 @@
-use Rattle.forms.proofs.Puttings.{runs}
+use Rattle.forms.proofs.FormsLaws.{runs}
 use Rattle.forms.proofs.forms.put_all.Statement.{statement}
 use Rattle.forms.proofs.forms.put_all.Tie as tie
 

@@ -1,6 +1,6 @@
 use Prim.Native.Nat.{_-_}
 use lib.ListN.{length}
-use Rattle.forms.proofs.Puttings.{Copying, copying}
+use Rattle.forms.proofs.FormsLaws.{Copying, copying}
 use Rattle.forms.proofs.forms.put_each.Statement.{statement}
 use Rattle.forms.proofs.forms.put_each.Tie as tie
 

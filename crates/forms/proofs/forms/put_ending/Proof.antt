@@ -1,4 +1,4 @@
-use Rattle.forms.proofs.Puttings.{parts}
+use Rattle.forms.proofs.FormsLaws.{parts}
 use Rattle.forms.proofs.forms.put_ending.Statement.{statement}
 use Rattle.forms.proofs.forms.put_ending.Tie as tie
 

@@ -1,4 +1,4 @@
-use Rattle.forms.proofs.Puttings.{bytes}
+use Rattle.forms.proofs.FormsLaws.{bytes}
 use Rattle.forms.proofs.forms.put_escape.Statement.{statement}
 use Rattle.forms.proofs.forms.put_escape.Tie as tie
 

@@ -1,7 +1,7 @@
 use Prim.Native.Nat.{_-_}
 use lib.ListN.{length}
 use Rattle.header.specs.Capitals.{headerCapitals}
-use Rattle.forms.proofs.Puttings.{Copying, capitals}
+use Rattle.forms.proofs.FormsLaws.{Copying, capitals}
 use Rattle.forms.proofs.forms.put_header.Statement.{statement}
 use Rattle.forms.proofs.forms.put_header.Tie as tie
 

@@ -1,4 +1,4 @@
-use Rattle.forms.proofs.Puttings.{headings}
+use Rattle.forms.proofs.FormsLaws.{headings}
 use Rattle.forms.proofs.forms.put_heading.Statement.{statement}
 use Rattle.forms.proofs.forms.put_heading.Tie as tie
 

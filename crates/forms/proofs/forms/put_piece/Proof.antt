@@ -1,4 +1,4 @@
-use Rattle.forms.proofs.Puttings.{piecing}
+use Rattle.forms.proofs.FormsLaws.{piecing}
 use Rattle.forms.proofs.forms.put_piece.Statement.{statement}
 use Rattle.forms.proofs.forms.put_piece.Tie as tie
 

@@ -1,4 +1,4 @@
-use Rattle.forms.proofs.Puttings.{parts}
+use Rattle.forms.proofs.FormsLaws.{parts}
 use Rattle.forms.proofs.forms.put_sum.Statement.{statement}
 use Rattle.forms.proofs.forms.put_sum.Tie as tie
 

@@ -1,7 +1,7 @@
 use Prim.Native.Nat.{_-_}
 use lib.ListN.{length}
 use Rattle.octets.proofs.Counts.{Counted, counting}
-use Rattle.forms.specs.Lengths.{isEscaped}
+use Rattle.forms.specs.InnerLengths.{isEscaped}
 use Rattle.forms.proofs.lengths.count_escapes.Statement.{statement}
 use Rattle.forms.proofs.lengths.count_escapes.Tie as tie
 

@@ -1,4 +1,4 @@
-use Rattle.forms.proofs.Reckoning.{escaped}
+use Rattle.forms.proofs.LengthsLaws.{escaped}
 use Rattle.forms.proofs.lengths.is_escaped.Statement.{statement}
 use Rattle.forms.proofs.lengths.is_escaped.Tie as tie
 

@@ -1,4 +1,4 @@
-use Rattle.forms.proofs.Reckoning.{reckoned}
+use Rattle.forms.proofs.LengthsLaws.{reckoned}
 use Rattle.forms.proofs.lengths.render_length.Statement.{statement}
 use Rattle.forms.proofs.lengths.render_length.Tie as tie
 

@@ -1,4 +1,4 @@
-use Rattle.header.proofs.InCapitals.{caps}
+use Rattle.header.proofs.CapitalsLaws.{caps}
 use Rattle.header.proofs.capitals.capital_at.Statement.{statement}
 use Rattle.header.proofs.capitals.capital_at.Tie as tie
 

@@ -1,8 +1,8 @@
 use Prim.Native.Nat.{_-_}
 use lib.ListN.{length}
-use Rattle.octets.proofs.Scans.{Alike}
+use Rattle.octets.proofs.SlicesLaws.{Alike}
 use Rattle.header.specs.Capitals.{headerCapitals}
-use Rattle.header.proofs.InCapitals.{caps}
+use Rattle.header.proofs.CapitalsLaws.{caps}
 use Rattle.header.proofs.capitals.same_capitals.Statement.{statement}
 use Rattle.header.proofs.capitals.same_capitals.Tie as tie
 

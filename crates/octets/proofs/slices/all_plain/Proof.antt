@@ -1,7 +1,7 @@
 use Prim.Native.Nat.{_-_}
 use lib.ListN.{length}
 use Rattle.octets.specs.Bytes.{isPlain}
-use Rattle.octets.proofs.Scans.{Testing, testing}
+use Rattle.octets.proofs.SlicesLaws.{Testing, testing}
 use Rattle.octets.proofs.slices.all_plain.Statement.{statement}
 use Rattle.octets.proofs.slices.all_plain.Tie as tie
 

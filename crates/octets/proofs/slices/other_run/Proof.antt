@@ -1,7 +1,7 @@
 use Prim.Native.Nat.{_-_}
 use lib.ListN.{length}
-use Rattle.octets.specs.Equal.{differs}
-use Rattle.octets.proofs.Scans.{Running, running}
+use Rattle.octets.specs.InnerEqual.{differs}
+use Rattle.octets.proofs.SlicesLaws.{Running, running}
 use Rattle.octets.proofs.slices.other_run.Statement.{statement}
 use Rattle.octets.proofs.slices.other_run.Tie as tie
 

@@ -1,4 +1,4 @@
-use Rattle.octets.proofs.Scans.{running}
+use Rattle.octets.proofs.SlicesLaws.{running}
 use Rattle.octets.proofs.slices.other_stride.Statement.{statement}
 use Rattle.octets.proofs.slices.other_stride.Tie as tie
 

@@ -1,4 +1,4 @@
-use Rattle.reading.proofs.Leads.{leads}
+use Rattle.reading.proofs.LeadLaws.{leads}
 use Rattle.reading.proofs.lead.soh_lead.Statement.{statement}
 use Rattle.reading.proofs.lead.soh_lead.Tie as tie
 

@@ -1,7 +1,7 @@
 use Prim.Native.Nat.{_-_}
 use lib.ListN.{length}
 use Rattle.octets.proofs.Counts.{Counted}
-use Rattle.reading.specs.Walking.{isMark}
+use Rattle.reading.specs.InnerParts.{isMark}
 use Rattle.reading.proofs.Marks.{marks}
 use Rattle.reading.proofs.translation.count_marks.Statement.{statement}
 use Rattle.reading.proofs.translation.count_marks.Tie as tie

@@ -1,4 +1,4 @@
-use Rattle.records.proofs.InCapitals.{filled}
+use Rattle.records.proofs.CapitalsLaws.{filled}
 use Rattle.records.proofs.capitals.capital_in.Statement.{statement}
 use Rattle.records.proofs.capitals.capital_in.Tie as tie
 

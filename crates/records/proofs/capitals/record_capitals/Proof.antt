@@ -1,5 +1,5 @@
 use Prim.Native.Nat.{_-_}
-use Rattle.records.proofs.InCapitals.{Filling, filled}
+use Rattle.records.proofs.CapitalsLaws.{Filling, filled}
 use Rattle.records.proofs.capitals.record_capitals.Statement.{statement}
 use Rattle.records.proofs.capitals.record_capitals.Tie as tie
 

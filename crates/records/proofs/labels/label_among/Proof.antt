@@ -1,4 +1,4 @@
-use Rattle.records.proofs.Labelled.{Asking, asking}
+use Rattle.records.proofs.LabelsLaws.{Asking, asking}
 use Rattle.records.proofs.labels.label_among.Statement.{statement}
 use Rattle.records.proofs.labels.label_among.Tie as tie
 

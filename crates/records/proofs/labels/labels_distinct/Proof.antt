@@ -1,4 +1,4 @@
-use Rattle.records.proofs.Labelled.{Parting, parting}
+use Rattle.records.proofs.LabelsLaws.{Parting, parting}
 use Rattle.records.proofs.labels.labels_distinct.Statement.{statement}
 use Rattle.records.proofs.labels.labels_distinct.Tie as tie
 

@@ -1,4 +1,4 @@
-use Rattle.renewal.proofs.Reaching.{reaching}
+use Rattle.renewal.proofs.RenewingLaws.{reaching}
 use Rattle.renewal.proofs.renewing.renewal_date.Statement.{statement}
 use Rattle.renewal.proofs.renewing.renewal_date.Tie as tie
 

@@ -1,7 +1,7 @@
 use borrow.Author.Needs.{needs}
 use Rattle.dates.specs.Calendar.{february, monthLength}
 use Rattle.renewal.specs.Counting.{lengthOf}
-use Rattle.renewal.proofs.Entries.{entries}
+use Rattle.renewal.proofs.TableLaws.{entries}
 use Rattle.renewal.proofs.table.days_before.Statement.{statement}
 use Rattle.renewal.proofs.table.days_before.Tie as tie
 

@@ -1,4 +1,4 @@
-use Rattle.sign.proofs.PortErrors.{driving}
+use Rattle.sign.proofs.ErrorsLaws.{driving}
 use Rattle.sign.proofs.errors.port_errors.Statement.{statement}
 use Rattle.sign.proofs.errors.port_errors.Tie as tie
 

@@ -1,4 +1,4 @@
-use Rattle.sign.proofs.Making.{fresh-boards}
+use Rattle.sign.proofs.FreshLaws.{fresh-boards}
 use Rattle.sign.proofs.fresh.fresh.Statement.{statement}
 use Rattle.sign.proofs.fresh.fresh.Tie as tie
 

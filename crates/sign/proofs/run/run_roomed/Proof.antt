@@ -35,8 +35,8 @@ enum-known-length c = search readied
 array-share-prefix-room : tie.Need-array-share-prefix-room
 array-share-prefix-room c = search readied
 
-slice-aggregate-run-frame : tie.Need-slice-aggregate-run-frame
-slice-aggregate-run-frame c = search readied
+slice-aggregate-translated : tie.Need-slice-aggregate-translated
+slice-aggregate-translated c = search readied
 
 run-frame-requires-2 : tie.Need-run-frame-requires-2
 run-frame-requires-2 c κs = search readied
@@ -65,7 +65,7 @@ run-roomed-spec =
     returns-2
     enum-known-length
     array-share-prefix-room
-    slice-aggregate-run-frame
+    slice-aggregate-translated
     run-frame-requires-2
     same-length-3
     same-length-4

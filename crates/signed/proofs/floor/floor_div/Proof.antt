@@ -1,4 +1,4 @@
-use Rattle.signed.proofs.Twelve.{twelve}
+use Rattle.signed.proofs.FloorLaws.{twelve}
 use Rattle.signed.proofs.floor.floor_div.Statement.{statement}
 use Rattle.signed.proofs.floor.floor_div.Tie as tie
 

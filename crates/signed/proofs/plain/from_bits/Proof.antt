@@ -1,4 +1,4 @@
-use Rattle.signed.proofs.Bits.{bits}
+use Rattle.signed.proofs.PlainLaws.{bits}
 use Rattle.signed.proofs.plain.from_bits.Statement.{statement}
 use Rattle.signed.proofs.plain.from_bits.Tie as tie
 

@@ -1,4 +1,4 @@
-use Rattle.special.proofs.Replacing.{replacing}
+use Rattle.special.proofs.ConfigurationLaws.{replacing}
 use Rattle.special.proofs.configuration.configure.Statement.{statement}
 use Rattle.special.proofs.configuration.configure.Tie as tie
 

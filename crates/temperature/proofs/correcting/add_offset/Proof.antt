@@ -1,4 +1,4 @@
-use Rattle.temperature.proofs.Sums.{summing}
+use Rattle.temperature.proofs.CorrectingLaws.{summing}
 use Rattle.temperature.proofs.correcting.add_offset.Statement.{statement}
 use Rattle.temperature.proofs.correcting.add_offset.Tie as tie
 

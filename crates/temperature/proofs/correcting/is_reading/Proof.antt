@@ -1,4 +1,4 @@
-use Rattle.temperature.proofs.Signs.{ranging}
+use Rattle.temperature.proofs.OffsetLaws.{ranging}
 use Rattle.temperature.specs.Correcting.{isReading}
 use Rattle.temperature.proofs.correcting.is_reading.Statement.{statement}
 use Rattle.temperature.proofs.correcting.is_reading.Tie as tie

@@ -1,4 +1,4 @@
-use Rattle.temperature.proofs.Signs.{ranging}
+use Rattle.temperature.proofs.OffsetLaws.{ranging}
 use Rattle.temperature.specs.Offset.{isOffset}
 use Rattle.temperature.proofs.offset.is_offset.Statement.{statement}
 use Rattle.temperature.proofs.offset.is_offset.Tie as tie

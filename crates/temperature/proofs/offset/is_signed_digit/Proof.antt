@@ -1,4 +1,4 @@
-use Rattle.temperature.proofs.Signs.{signing}
+use Rattle.temperature.proofs.OffsetLaws.{signing}
 use Rattle.temperature.proofs.offset.is_signed_digit.Statement.{statement}
 use Rattle.temperature.proofs.offset.is_signed_digit.Tie as tie
 

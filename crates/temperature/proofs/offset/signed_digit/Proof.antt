@@ -1,4 +1,4 @@
-use Rattle.temperature.proofs.Signs.{numbering}
+use Rattle.temperature.proofs.OffsetLaws.{numbering}
 use Rattle.temperature.proofs.offset.signed_digit.Statement.{statement}
 use Rattle.temperature.proofs.offset.signed_digit.Tie as tie
 

@@ -1,4 +1,4 @@
-use Rattle.writing.proofs.BlockWalks.{Placing, placing}
+use Rattle.writing.proofs.BlocksLaws.{Placing, placing}
 use Rattle.writing.proofs.blocks.put_blocks.Statement.{statement}
 use Rattle.writing.proofs.blocks.put_blocks.Tie as tie
 

@@ -1,4 +1,4 @@
-use Rattle.writing.proofs.JoinLaws.{firsts}
+use Rattle.writing.proofs.JoiningLaws.{firsts}
 use Rattle.writing.proofs.joining.first_parts.Statement.{statement}
 use Rattle.writing.proofs.joining.first_parts.Tie as tie
 

@@ -1,4 +1,4 @@
-use Rattle.writing.proofs.JoinLaws.{firsts}
+use Rattle.writing.proofs.JoiningLaws.{firsts}
 use Rattle.writing.proofs.joining.first_printable.Statement.{statement}
 use Rattle.writing.proofs.joining.first_printable.Tie as tie
 

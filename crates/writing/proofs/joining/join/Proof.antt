@@ -1,4 +1,4 @@
-use Rattle.writing.proofs.JoinLaws.{joins}
+use Rattle.writing.proofs.JoiningLaws.{joins}
 use Rattle.writing.proofs.joining.join.Statement.{statement}
 use Rattle.writing.proofs.joining.join.Tie as tie
 

@@ -1,4 +1,4 @@
-use Rattle.writing.proofs.JoinLaws.{joining}
+use Rattle.writing.proofs.JoiningLaws.{joining}
 use Rattle.writing.proofs.joining.join_right.Statement.{statement}
 use Rattle.writing.proofs.joining.join_right.Tie as tie
 

@@ -1,4 +1,4 @@
-use Rattle.writing.proofs.JoinLaws.{seconds}
+use Rattle.writing.proofs.JoiningLaws.{seconds}
 use Rattle.writing.proofs.joining.join_room.Statement.{statement}
 use Rattle.writing.proofs.joining.join_room.Tie as tie
 

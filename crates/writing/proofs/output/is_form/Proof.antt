@@ -1,4 +1,4 @@
-use Rattle.writing.proofs.Answers.{answering}
+use Rattle.writing.proofs.OutputLaws.{answering}
 use Rattle.writing.proofs.output.is_form.Statement.{statement}
 use Rattle.writing.proofs.output.is_form.Tie as tie
 

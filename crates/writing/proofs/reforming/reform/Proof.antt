@@ -1,4 +1,4 @@
-use Rattle.writing.proofs.ReformLaws.{reforms}
+use Rattle.writing.proofs.ReformingLaws.{reforms}
 use Rattle.writing.proofs.reforming.reform.Statement.{statement}
 use Rattle.writing.proofs.reforming.reform.Tie as tie
 

@@ -1,4 +1,4 @@
-use Rattle.writing.proofs.ReformLaws.{reforming}
+use Rattle.writing.proofs.ReformingLaws.{reforming}
 use Rattle.writing.proofs.reforming.reform_printable.Statement.{statement}
 use Rattle.writing.proofs.reforming.reform_printable.Tie as tie
 

@@ -1,4 +1,4 @@
-use Rattle.writing.proofs.WriteLaws.{fitting}
+use Rattle.writing.proofs.WritingLaws.{fitting}
 use Rattle.writing.proofs.writing.fit_written.Statement.{statement}
 use Rattle.writing.proofs.writing.fit_written.Tie as tie
 

@@ -1,4 +1,4 @@
-use Rattle.writing.proofs.WriteLaws.{writing}
+use Rattle.writing.proofs.WritingLaws.{writing}
 use Rattle.writing.proofs.writing.write.Statement.{statement}
 use Rattle.writing.proofs.writing.write.Tie as tie
 

@@ -1,4 +1,4 @@
-use Rattle.writing.proofs.WriteLaws.{escaped}
+use Rattle.writing.proofs.WritingLaws.{escaped}
 use Rattle.writing.proofs.writing.written_escapes.Statement.{statement}
 use Rattle.writing.proofs.writing.written_escapes.Tie as tie
 
