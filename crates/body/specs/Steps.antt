@@ -1,4 +1,4 @@
--- Where a block stands in the bytes of a frame: what a step over the blocks answers.
+-- Where a block stands in the bytes of a frame: what a step over the blocks answers; and the blocks that stand from a place on.
 use Prim.Native.Nat.{ℕ, _+_, _-_}
 use mathlib.Core.Bool.{Bool, true, false}
 use mathlib.Core.List.{List, []}

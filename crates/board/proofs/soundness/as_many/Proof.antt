@@ -1,4 +1,4 @@
-use Rattle.board.proofs.Holding.{sounding}
+use Rattle.board.proofs.SoundnessLaws.{sounding}
 use Rattle.board.proofs.soundness.as_many.Statement.{statement}
 use Rattle.board.proofs.soundness.as_many.Tie as tie
 

@@ -1,4 +1,4 @@
-use Rattle.board.proofs.Holding.{filing}
+use Rattle.board.proofs.SoundnessLaws.{filing}
 use Rattle.board.proofs.soundness.length_at.Statement.{statement}
 use Rattle.board.proofs.soundness.length_at.Tie as tie
 
