@@ -1,9 +1,9 @@
 -- Request 4, "Meters that send small letters.": where a to f are taken, and where not; what is stored, replied and written then.
-use Prim.Native.Nat.{ℕ, _+_}
+use Prim.Native.Nat.{ℕ}
 use Prim.Native.String.{String}
 use mathlib.Core.Path.{_≡_}
-use mathlib.Core.List.{List, [], _∷_, _++_}
-use lib.ListN.{length, set}
+use mathlib.Core.List.{List, [], _∷_}
+use lib.ListN.{set}
 use Rattle.octets.specs.Buffer.{zeros}
 use Rattle.board.specs.Settings.{withAddress}
 use Rattle.writing.specs.Writing.{write}
@@ -11,7 +11,7 @@ use Rattle.writing.specs.Reforming.{reform}
 use Rattle.writing.specs.Joining.{join}
 use Rattle.frame.specs.Results.{resultOf}
 use Rattle.sign.specs.Run.{Outcome}
-use Rattle.sheet.specs.Sheet.{bytes, Example, numbers, reaches, stores, replies, alike, Says, onFresh}
+use Rattle.sheet.specs.Sheet.{bytes, Example, numbers, stores, replies, alike, Says, onFresh}
 use Rattle.cases.specs.Numbers.{Call, frames, refusing, running, writing, joining, Row, row, at, E'S}
 
 -- a byte of a frame, and a block of it

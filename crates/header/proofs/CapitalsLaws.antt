@@ -15,8 +15,8 @@ use Rattle.octets.specs.Carried.{isSmall, capital}
 use Rattle.octets.proofs.Tests.{choice, by-test, or-in, split}
 use Rattle.octets.proofs.Capitals.{capital-other, capital-not-small, capital-again, capital-is}
 use Rattle.octets.proofs.SlicesLaws.{Alike, same-long, alike-start, alike-not, alike-on, alike-end}
-use Rattle.header.specs.Addressing.{fitOf, typeFits, isAddressChar, charFits, addressFits, pairFits, anyFits, addressed}
-use Rattle.header.specs.Header.{isTaken, isPair, isPairs, isHeader}
+use Rattle.header.specs.Addressing.{isAddressChar, charFits, addressFits, pairFits, anyFits, addressed}
+use Rattle.header.specs.Header.{isPair, isPairs, isHeader}
 use Rattle.header.specs.Capitals.{capitalAt, capitalsFrom, headerCapitals, noSmallFrom, noSmall}
 
 -- ---- a byte at a place

@@ -1,5 +1,4 @@
 -- A reading hands the header text on as it was received; its capitals are what re-forming and joining compare and write.
-use mathlib.Core.List.{List}
 use Rattle.header.specs.Capitals.{headerCapitals}
 use Rattle.reading.specs.Reading.{Reading, refused, frame}
 

@@ -1,6 +1,6 @@
 -- Frames that read alike run alike, and so do frames whose headers differ only in small letters.
 use Prim.Native.Nat.{ℕ}
-use mathlib.Core.Path.{_≡_, refl, sym, ap, _∙_}
+use mathlib.Core.Path.{_≡_, refl, ap}
 use mathlib.Core.List.{List}
 use Rattle.reading.specs.Reading.{Reading, refused, frame, read}
 use Rattle.reading.specs.Capitals.{inCapitals}
