@@ -1,15 +1,16 @@
 /* Pagozkin: what the board's firmware calls, for C99 and C++. The library is libport.a; its calls are proved.
- * The words in quotation marks are those of the definition of the build and of the requests that changed it.
+ * The words in quotation marks are those of the definition of the build and of the requests that changed it; of the register's bits, of the
+ * protocol.
  *
  * What C must see to, in every call:
- * - a pointer is valid for as many bytes as the length behind it says (a length of 0 asks nothing of its pointer);
+ * - a pointer is valid for as many bytes as the length behind it says (a length of 0 asks nothing of its pointer), room for PAGOZKIN_ROOM;
  * - a buffer that is written (a pointer without const) shares no byte with another buffer of the call;
  * - nothing else writes the buffers while the call runs, and the stack has room for it (PAGOZKIN_STACK_..).
- * Nothing more: frames, boards, numbers and lengths may be anything, and each call does its own checking. It checks what it is handed: C
- * converts a number to the type of a parameter or field without a word; with the usual compilers 65537 handed over as int16_t months is 1,
- * 265 as int8_t offset is 9 and 257 as uint8_t form is 1. Test a number that may not fit before you hand it over (-Wconversion warns).
+ * Nothing more: frames, boards, numbers and lengths may be anything, and each call does its own checking. But it sees a number as C hands it
+ * over, and C converts silently: with the usual compilers 65537 handed over as int16_t months is 1, 265 as int8_t offset is 9 and 257 as
+ * uint8_t form is 1. Test a number that may not fit before you hand it over (-Wconversion warns).
  * In frames hex digits may be small letters, a to f: in checksums, escapes, header addresses, E "7" and SIZE and QQQQ of E "$", and
- * nowhere else. What the calls store, reply and write is in capitals; a block's data are copied as received.
+ * nowhere else. Hex digits that the calls store, reply and write are capitals; a block's data are copied as received.
  * No call keeps anything for the next one or takes memory besides the stack, so calls on different buffers may run at one time.
  * The library calls memcpy and memset and nothing else. */
 #ifndef PAGOZKIN_H
@@ -28,7 +29,7 @@ extern "C" {
 #define PAGOZKIN_VERSION_MINOR 0
 #define PAGOZKIN_VERSION_PATCH 1
 
-/* Marks every call: an answer that is thrown away hides a refusal, and a compiler that can shall warn of it. */
+/* Marks every call: an answer that is thrown away hides a refusal, and a compiler that can warns of it. */
 #if defined(__GNUC__) || defined(__clang__)
 #define PAGOZKIN_MUST_USE __attribute__((warn_unused_result))
 #else
@@ -93,7 +94,7 @@ enum {
     PAGOZKIN_NOT_ADDRESSED = 9,    /* "not addressed" */
     PAGOZKIN_WRONG_TYPE = 10,      /* "fresh board: wrong type" */
     PAGOZKIN_WRONG_MEMORY = 11,    /* "wrong memory length" */
-    PAGOZKIN_HEADERS_DIFFER = 12,  /* "join: header texts differ", in more than small letters */
+    PAGOZKIN_HEADERS_DIFFER = 12,  /* "join: header texts differ", in more than small letters of addresses */
     PAGOZKIN_FIRST_HAS_READ = 13,  /* "first frame has a read" */
     PAGOZKIN_NO_ROOM = 14,         /* "output buffer too short" */
     PAGOZKIN_WRONG_FORM = 15,      /* "form not 1, 2 or 3" */
@@ -123,7 +124,7 @@ enum {
 
 /* A reading and the temperature offset: "in both the call answers 0". */
 enum {
-    PAGOZKIN_OFFSET_OUTSIDE = 1,  /* "an offset outside -9 to 9, from the call too": the number that a board with such an offset has */
+    PAGOZKIN_OFFSET_OUTSIDE = 1,  /* "an offset outside -9 to 9, from the call too": as a run answers for a board with such an offset */
     PAGOZKIN_READING_OUTSIDE = 33 /* "then 33 for a reading outside its range" */
 };
 
@@ -135,7 +136,7 @@ enum {
 };
 
 /* "Settings travel as one record, handed in and handed back". The library keeps no clock: between runs the firmware's clock writes
- * hour, minute, month, day and year here, these alone and so that time and date exist; else the next run answers 1.
+ * hour, minute, month, day and year here, these alone and so that time and date exist. A run answers 1 where a field is not as said here.
  * Settings that an older version kept lack fields: docs/MIGRATING.md says what to write there, once.
  * The library keeps unused and places true: leave them alone, and errors to pagozkin_port_errors. */
 typedef struct pagozkin_settings {
@@ -149,11 +150,11 @@ typedef struct pagozkin_settings {
     uint8_t address; /* serial address, "Any address 00 to FF is in range." */
     uint8_t own;     /* own type, "one of Table 4's codes" */
     uint8_t files;   /* "0 to 64 files" */
-    uint16_t unused; /* "the memory length less, for each file, its record and its counted size": 0 to 32,768; else 1 */
-    /* "for each label 20H to 7EH, where its record begins", or PAGOZKIN_NOWHERE; else 1 */
+    uint16_t unused; /* "the memory length less, for each file, its record and its counted size": 0 to 32,768 */
+    /* "for each label 20H to 7EH, where its record begins", or PAGOZKIN_NOWHERE */
     uint16_t places[PAGOZKIN_PLACES];
-    int8_t offset;  /* temperature offset, set by E "T": "-9 to 9"; else 1 */
-    uint8_t errors; /* serial error status register, cleared by E "4" and, once it is told, by F "*": 40H to 7FH; else 1 */
+    int8_t offset;  /* temperature offset, set by E "T": "-9 to 9" */
+    uint8_t errors; /* serial error status register, cleared by E "4" and, once it is told, by F "*": 40H to 7FH */
 } pagozkin_settings;
 
 /* "A run returns a number, blocks done, blocks refused, .." */
@@ -167,7 +168,7 @@ typedef struct pagozkin_tally {
 
 /* The outcome of a run. */
 typedef struct pagozkin_answer {
-    uint8_t number;             /* 0, or 1 to 9: "board and buffers untouched, everything else returned is 0" */
+    uint8_t number;             /* 0, or 1 to 9: "board and buffers untouched", the tally all 0 */
     pagozkin_tally tally;
     pagozkin_settings settings; /* the next settings; with 1 to 9 those handed in */
 } pagozkin_answer;
@@ -247,8 +248,8 @@ typedef struct pagozkin_corrected {
     int16_t sum;    /* "the exact sum": -137 to 136 */
 } pagozkin_corrected;
 
-/* Stack in bytes that a call needs, the settings that are handed over by value and the C library's memcpy and memset included, as
- * libport.a stands (x86-64). */
+/* Stack in bytes that a call needs, the settings that are handed over by value and memcpy and memset of the kit's C library included,
+ * as libport.a stands (x86-64). */
 #define PAGOZKIN_STACK_FRESH 768
 #define PAGOZKIN_STACK_IS_SOUND 768
 #define PAGOZKIN_STACK_RUN 12800
@@ -293,9 +294,9 @@ pagozkin_written pagozkin_reform(uint8_t form, const uint8_t *frame, size_t fram
 pagozkin_written pagozkin_join(uint8_t form, const uint8_t *first, size_t first_len, const uint8_t *second, size_t second_len,
                                uint8_t *out, size_t out_len) PAGOZKIN_MUST_USE;
 
-/* "How a frame reads": 0, or 3 to 8, and where its blocks start. A printable frame without a fault (5), of at most 24,576
- * characters, that stands for at most 8,192 bytes leaves these bytes at the start of the room whatever the answer, so with 4, 6, 7
- * and 8 too; nothing behind them is touched. Every other frame leaves the room untouched.
+/* "How a frame reads": 0, or 3 to 8, and where its blocks start. A printable frame that is refused
+ * neither with 3 nor with 5 leaves the bytes that it stands for at the start of the room, with 4, 6, 7 and 8 too; nothing behind
+ * them is touched. Any other frame leaves the room untouched.
  * C must see to: frame valid for frame_len bytes, room for PAGOZKIN_ROOM, and no byte in both. */
 pagozkin_places pagozkin_read(const uint8_t *frame, size_t frame_len, uint8_t room[PAGOZKIN_ROOM]) PAGOZKIN_MUST_USE;
 
@@ -315,7 +316,7 @@ pagozkin_day_of_week pagozkin_weekday(pagozkin_date date) PAGOZKIN_MUST_USE;
 /* "the days between two dates, negative when the second is earlier": 0, or 30 where either date does not exist. */
 pagozkin_days_apart pagozkin_days_between(pagozkin_date first, pagozkin_date second) PAGOZKIN_MUST_USE;
 
-/* "adds the offset to a reading from -128 to 127 and returns the exact sum": 0, or 1 and then 33. offset is the settings' own, which
+/* "adds the offset to a reading from -128 to 127 and returns the exact sum": 0, 1 or 33; 1 is tested first. offset is the settings' own, which
  * after a run that was not answered with 1 is -9 to 9; reading is what the sensor says. The sum of a good pair is always answered,
  * also where a byte would not hold it: show sum, and not a part of it. */
 pagozkin_corrected pagozkin_add_offset(int8_t offset, int16_t reading) PAGOZKIN_MUST_USE;
