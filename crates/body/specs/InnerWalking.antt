@@ -1,4 +1,4 @@
--- For contracts of inner functions only: what the walks over the blocks need and answer.
+-- For contracts of inner functions only: what the walk over a block's data needs and answers, and where such data stand.
 use Prim.Native.Nat.{ℕ, _+_, _<_, _≤_}
 use mathlib.Core.Path.{_≡_}
 use mathlib.Core.List.{List, [], _∷_}

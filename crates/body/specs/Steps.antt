@@ -23,12 +23,12 @@ unfoldable pub blocksIn : Body → List Block
 blocksIn badBody = []
 blocksIn (body bs) = bs
 
--- a good body
+-- a good body, and not 7 "bad body"
 unfoldable pub isBody : Body → Bool
 isBody badBody = false
 isBody (body bs) = true
 
--- a good body stands at a place of s
+-- a good body stands at a place of s: "1 to 64 blocks, then EOT as the very last byte"
 unfoldable pub bodyAt : List ℕ → ℕ → Bool
 bodyAt s from = isBody (blocks BLOCKS (drop from s))
 

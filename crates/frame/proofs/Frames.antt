@@ -30,15 +30,15 @@ pub record Good (h : List ℕ) (bs : List Block) : Type 0 where
   pub few : length bs ≤ BLOCKS
   pub reads : readNotLast false bs ≡ false
 
-good : {h : List ℕ} {bs : List Block} → FrameOf anything h bs → Good h bs
-good g = record { header = g .header; plain = g .blocks .plain; some = g .blocks .some; few = g .blocks .few; reads = g .reads }
+by-frame : {h : List ℕ} {bs : List Block} → FrameOf anything h bs → Good h bs
+by-frame g = record { header = g .header; plain = g .blocks .plain; some = g .blocks .some; few = g .blocks .few; reads = g .reads }
 
 module _ (s h : List ℕ) (bs : List Block) where
   pub read-good : read s ≡ frame h bs → Good h bs
-  read-good e = good (read-plain s h bs e)
+  read-good e = by-frame (read-plain s h bs e)
 
   pub capitals-good : inCapitals (read s) ≡ frame h bs → Good h bs
-  capitals-good e = good (capitals-plain s h bs e)
+  capitals-good e = by-frame (capitals-plain s h bs e)
 
 -- what was read is the same twice in capitals
 pub capitals-twice : (x : Reading) → inCapitals (inCapitals x) ≡ inCapitals x

@@ -1,5 +1,5 @@
--- What the frame layer promises. Frames, Standing and Stepping are for the layers above it; the others are the second demand, that what we
--- write reads back, and what it rests on.
+-- What the frame layer promises. Frames, Standing and Stepping are for the layers above it, and Computing for who computes with its
+-- definitions; the others are the second demand, that what we write reads back, and what it rests on.
 pub mod Computing
 pub mod Frames
 pub mod Standing

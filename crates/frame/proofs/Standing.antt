@@ -20,8 +20,8 @@ pub record Standing (t : List ℕ) (i j : ℕ) (r : Reading) : Type 0 where
   pub ordered : i ≤ j
   pub inside : j ≤ length t
 
-standing : {t : List ℕ} {i j : ℕ} {r : Reading} → viewing.Stands t i j r → Standing t i j r
-standing w = record { reads = viewing.stands-frame w; good = viewing.stands-good w; ordered = w .ordered; inside = omega (arith, w .inside) }
+by-stands : {t : List ℕ} {i j : ℕ} {r : Reading} → viewing.Stands t i j r → Standing t i j r
+by-stands w = record { reads = viewing.stands-frame w; good = viewing.stands-good w; ordered = w .ordered; inside = omega (arith, w .inside) }
 
 -- s is a frame that was read with a room
 module _ {s room after : List ℕ} {answer : Read} (g : Reads s room answer after) where
@@ -29,12 +29,12 @@ module _ {s room after : List ℕ} {answer : Read} (g : Reads s room answer afte
   refused-reads = viewing.reads-refused g
 
   pub standard-stands : {i j : ℕ} → answer ≡ Standard i j → Standing s i j (read s)
-  standard-stands h = standing (viewing.reads-standard g h)
+  standard-stands h = by-stands (viewing.reads-standard g h)
 
   -- of a printable frame n bytes stand at the start of the room
   module _ {n i j : ℕ} (h : answer ≡ Printable n i j) where
     pub printable-stands : Standing (take n after) i j (read s)
-    printable-stands = standing (viewing.reads-printable g h .stands)
+    printable-stands = by-stands (viewing.reads-printable g h .stands)
 
     pub room-within : n ≤ length after
     room-within = viewing.reads-within g h
@@ -48,7 +48,7 @@ module _ (s : List ℕ) (p : isPrintable s ≡ false) {answer : Read} (e : answe
   bare-refused = viewing.bare-refused s p e
 
   pub bare-stands : {i j : ℕ} → answer ≡ Standard i j → Standing s i j (read s)
-  bare-stands h = standing (viewing.bare-standard s p e h)
+  bare-stands h = by-stands (viewing.bare-standard s p e h)
 
   -- nothing stands in a room then
   pub bare-never {ℓ} : {X : Type ℓ} {n i j : ℕ} → answer ≡ Printable n i j → X
