@@ -1,7 +1,7 @@
 //! The temperature that a sign shows, request 9: "A call adds the offset to a
 //! reading from -128 to 127 and returns the exact sum."
 
-use crate::numbers::{answered, Number, NOT_SOUND, WRONG_READING};
+use crate::numbers::{Number, NOT_SOUND, WRONG_READING};
 
 /// Request 9: "a sign and one digit 0 to 9, so -9 to 9".
 pub const LEAST_OFFSET: i8 = -9;
@@ -10,28 +10,15 @@ pub const MOST_OFFSET: i8 = 9;
 pub const LEAST_READING: i16 = -128;
 pub const MOST_READING: i16 = 127;
 
-/// What the call returns.
-#[derive(Clone, Copy, Debug, PartialEq, Eq)]
-pub struct Corrected {
-    pub number: Number,
-    pub sum: i16,
-}
-
-/// The reading with the offset added.
-pub fn temperature(offset: i8, reading: i16) -> Corrected {
-    let (number, sum) = answered(corrected(offset, reading));
-    Corrected { number, sum }
-}
-
 /// Whether a sign can hold the offset.
 pub fn is_offset(offset: i8) -> bool {
     (LEAST_OFFSET..=MOST_OFFSET).contains(&offset)
 }
 
-/// The sum or the refusal's number, by request 9: "1 for an offset outside -9 to
-/// 9, from the call too; then 33 for a reading outside its range". Neither end
-/// of the sums, -137 and 136, is a number of one byte.
-fn corrected(offset: i8, reading: i16) -> Result<i16, Number> {
+/// The reading with the offset added. Request 9: "1 for an offset outside -9 to 9,
+/// from the call too; then 33 for a reading outside its range". Neither end of the
+/// sums, -137 and 136, is a number of one byte.
+pub fn temperature(offset: i8, reading: i16) -> Result<i16, Number> {
     if !is_offset(offset) {
         return Err(NOT_SOUND);
     }

@@ -1,0 +1,9 @@
+//! The comparison with another implementation: the case stream, and the cases.
+
+pub mod answer;
+pub mod parts;
+pub mod random;
+pub mod source;
+pub mod stored;
+pub mod stream;
+pub mod twelve;

@@ -1,0 +1,8 @@
+//! The stored cases.
+use super::stream::Case;
+pub struct Row {
+    pub case: Case,
+}
+pub fn stored() -> Vec<Row> {
+    Vec::new()
+}
