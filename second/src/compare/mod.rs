@@ -3,7 +3,6 @@
 pub mod answer;
 pub mod parts;
 pub mod random;
-pub mod source;
 pub mod stored;
 pub mod stream;
 pub mod twelve;

@@ -1,0 +1,7 @@
+//! What the documents say, of the second implementation.
+
+mod calendar;
+mod laws;
+mod stored;
+mod stream;
+mod twelve;
