@@ -1,11 +1,11 @@
 //! What the documents promise of every case, over random ones: what a refusal leaves,
 //! what is read back, and that a joined frame does what the two do in turn.
 
+use second::board::commands::run_block;
 use second::board::run::{run, Ran};
 use second::board::settings::Settings;
 use second::board::soundness::is_sound;
 use second::board::Board;
-use second::bytes::{SERIAL_ADDRESS, WRITE_SPECIAL};
 use second::compare::answer::Given;
 use second::compare::random::random_cases;
 use second::compare::stream::Case;
@@ -13,7 +13,6 @@ use second::frame::header::capitals;
 use second::frame::joining::join;
 use second::frame::reading::read;
 use second::frame::reforming::reform;
-use second::frame::sum::is_wrong;
 use second::frame::translation::{translate, MOST_PRINTABLE};
 use second::frame::writing::write;
 use second::numbers::answered;
@@ -33,13 +32,6 @@ fn meaning(frame: &[u8]) -> Option<Meaning> {
         .iter()
         .map(|block| (block.command, block.data.to_vec()));
     Some((capitals(frame.header), blocks.collect()))
-}
-
-/// Whether a frame reads and no sum of it is wrong.
-fn has_right_sums(frame: &[u8]) -> bool {
-    translate(frame).is_ok_and(|translated| {
-        read(&translated).is_ok_and(|frame| !frame.blocks.iter().any(is_wrong))
-    })
 }
 
 /// What a call puts into a buffer that is long enough.
@@ -130,44 +122,32 @@ fn a_sound_board_stays_sound_and_every_block_is_counted() {
     assert_often(done, 1_000);
 }
 
-/// "A refused block now changes nothing but this register", and the blocks after it
-/// run: a frame does what its blocks do one by one.
+/// "A refused block now changes nothing but this register": its bit for 20, that for 21
+/// and 23, and nothing for the others.
 #[test]
-fn a_frame_does_what_its_blocks_do_in_turn() {
+fn a_refused_block_changes_nothing_but_the_register() {
     let mut refused = 0;
-    for (board, reply, frame) in runs() {
-        let (mut whole, mut whole_reply) = (board.clone(), reply.clone());
-        if run(&mut whole, &mut whole_reply, &frame).is_err() || !has_right_sums(&frame) {
+    for (mut board, _, raw) in runs() {
+        let Ok(translated) = translate(&raw) else {
             continue;
-        }
-        let (header, blocks) = meaning(&frame).expect("a frame that ran");
-        let (mut board, mut reply) = (board, reply);
-        let address = board.settings.address;
-        for (command, data) in blocks {
-            let single = output_of(|output| write(2, &header, command, &data, output));
-            let before = board.clone();
-            // "the serial address from the next frame on": here it is still the same frame.
-            let new_address = std::mem::replace(&mut board.settings.address, address);
-            let (number, ran) = answered(run(&mut board, &mut reply, &single.expect("a block")));
-            assert_eq!(number, 0);
-            if ran.refused > 0 || command != WRITE_SPECIAL || data.first() != Some(&SERIAL_ADDRESS)
-            {
-                board.settings.address = new_address;
-            }
-            if ran.refused > 0 {
-                refused += 1;
-                board.settings.register &= before.settings.register;
-                assert_eq!(board, before);
-                board.settings.register = match ran.first_number {
-                    20 => before.settings.register | 0x10,
-                    21 | 23 => before.settings.register | 0x20,
-                    _ => before.settings.register,
+        };
+        let Ok(frame) = read(&translated) else {
+            continue;
+        };
+        for block in &frame.blocks {
+            let mut meant = board.clone();
+            if let Err(number) = run_block(&mut board, block) {
+                meant.settings.register |= match number {
+                    20 => 0x10,
+                    21 | 23 => 0x20,
+                    _ => 0,
                 };
+                assert_eq!(board, meant);
+                refused += 1;
             }
         }
-        assert_eq!((board, reply), (whole, whole_reply));
     }
-    assert_often(refused, 200);
+    assert_often(refused, 500);
 }
 
 #[test]

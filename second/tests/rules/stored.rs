@@ -191,6 +191,7 @@ impl Meant {
                 meant.done = Some(done);
                 meant.refused = refused;
             } else if let Some((place, first)) = counts(word, ':') {
+                assert!(!is_block || first == usize::from(expected));
                 meant.first = (place, first as u8);
             }
         }
@@ -236,6 +237,7 @@ fn change(meant: &mut Board, word: &str) {
         .find(|file| file.record.label == label[0])
         .expect("a file");
     let mut content = bytes(value);
+    assert!(content.len() <= file.content.len(), "more than SIZE");
     content.resize(file.content.len(), 0);
     meant.memory[file.content].copy_from_slice(&content);
 }

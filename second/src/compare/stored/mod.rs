@@ -58,74 +58,76 @@ pub fn stored() -> Vec<Row> {
 
 /// The rows of one table.
 pub fn rows(name: &str, table: &str) -> Vec<Row> {
-    let mut names: Vec<(&str, String)> = Vec::new();
+    let mut names: Vec<(String, String)> = Vec::new();
     let mut rows = Vec::new();
-    for (place, line) in table.lines().enumerate() {
+    for (place, line) in (1..).zip(table.lines()) {
         if line.is_empty() || line.starts_with('#') {
             continue;
         }
-        let line_of_names = line.strip_prefix("let ");
-        let text = with_names(&names, line_of_names.unwrap_or(line));
-        if line_of_names.is_some() {
-            let (name, meaning) = text.split_once(' ').expect("a name and its text");
-            let start = line.find(name).expect("the name itself");
-            names.push((&line[start..start + name.len()], meaning.trim().to_string()));
-            continue;
-        }
-        assert!(!text.contains('@'), "a text without a name: {text}");
-        for line in one_by_one(&text) {
-            let (call, expected) = line.split_once("=>").expect("what is expected");
-            let expected = expected.trim();
-            rows.push(Row {
-                place: format!("{name}.txt:{}: {line}", place + 1),
-                case: case(
-                    call,
-                    if expected.starts_with("0 ") {
-                        "64"
-                    } else {
-                        "8"
-                    },
-                ),
-                expected: expected.to_string(),
-            });
+        let text = with_names(&names, line);
+        assert!(!text.contains('@'), "a name that is not there: {text}");
+        match text.strip_prefix("let ") {
+            Some(named) => {
+                let (name, meaning) = named.split_once("  ").expect("a name and its text");
+                names.push((format!("@{name}"), meaning.trim().to_string()));
+            }
+            None => {
+                let place = format!("{name}.txt:{place}");
+                rows.extend(one_by_one(&text).iter().map(|line| row(&place, line)));
+            }
         }
     }
     rows
 }
 
-/// The text with each `@NAME` replaced. Of two names that begin alike the longer one
-/// is named later.
-fn with_names(names: &[(&str, String)], text: &str) -> String {
+/// The text with each name replaced. Of two names that begin alike the longer one
+/// comes later in the table.
+fn with_names(names: &[(String, String)], text: &str) -> String {
     names
         .iter()
         .rev()
         .fold(text.to_string(), |text, (name, meaning)| {
-            text.replace(&format!("@{name}"), meaning)
+            text.replace(name, meaning)
         })
+}
+
+/// A row without names and alternatives.
+fn row(place: &str, line: &str) -> Row {
+    let (call, expected) = line.split_once("=>").expect("what is expected");
+    let expected = expected.trim();
+    let room = if expected.starts_with("0 ") {
+        "64"
+    } else {
+        "8"
+    };
+    Row {
+        place: format!("{place}: {line}"),
+        case: case(call, room),
+        expected: expected.to_string(),
+    }
 }
 
 /// A row of each part of its `<a|b|c>`, in step where there are several.
 fn one_by_one(line: &str) -> Vec<String> {
-    let parts = |line: &str| {
-        let (before, rest) = line.split_once('<')?;
-        let (inner, after) = rest.split_once('>')?;
-        let parts: Vec<String> = inner.split('|').map(str::to_string).collect();
-        Some((before.to_string(), parts, after.to_string()))
-    };
-    let Some((before, first, after)) = parts(line) else {
-        return vec![line.to_string()];
-    };
-    let lines = first.iter().enumerate().map(|(turn, part)| {
-        let mut line = format!("{before}{part}");
-        let mut rest = after.clone();
-        while let Some((before, others, after)) = parts(&rest) {
-            assert_eq!(others.len(), first.len(), "parts that go together: {rest}");
-            line += &(before + &others[turn]);
-            rest = after;
-        }
-        line + &rest
+    let count = line.split_once('<').map_or(1, |(_, rest)| {
+        rest.split('>')
+            .next()
+            .unwrap_or_default()
+            .split('|')
+            .count()
     });
-    lines.collect()
+    (0..count).map(|turn| chosen(line, turn, count)).collect()
+}
+
+/// The line with the part of this turn in the place of all so many.
+fn chosen(line: &str, turn: usize, count: usize) -> String {
+    let Some((before, rest)) = line.split_once('<') else {
+        return line.to_string();
+    };
+    let (parts, after) = rest.split_once('>').expect("the end of the parts");
+    let parts: Vec<&str> = parts.split('|').collect();
+    assert_eq!(parts.len(), count, "parts that go together: {line}");
+    [before, parts[turn], &chosen(after, turn, count)].concat()
 }
 
 /// The case of a row without what is expected, its output buffer of this length where

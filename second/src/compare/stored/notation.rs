@@ -12,7 +12,8 @@
 //! in small letters. A text that begins with `_` is a printable frame as it stands,
 //! one that begins with `=` any bytes as they stand.
 //!
-//! A board: words parted by spaces. A number is memory's length; `+` begins a file,
+//! A board: words parted by spaces; what they do not name is as on a fresh board of
+//! type "C". A number is memory's length; `+` begins a file,
 //! its record and behind a second `=` its content; `crowd=64*1` is 64 TEXT files of
 //! SIZE 1; `hour=24` sets a field, `index:A=7` an entry, `at:30=x` bytes of memory,
 //! `length=63` cuts memory or makes it longer, and these come last, so that amount
@@ -173,10 +174,15 @@ pub fn board(text: &str) -> Board {
         }
     }
     let settings = Settings {
+        month: 1,
+        day: 1,
+        format: b'S',
+        own_type: b'C',
+        files,
         unused: length.saturating_sub(memory.len()) as u16,
         index,
-        files,
-        ..Settings::fresh(b'C', 0)
+        register: 0x40,
+        ..Settings::default()
     };
     memory.resize(length, NUL);
     let mut board = Board { settings, memory };
