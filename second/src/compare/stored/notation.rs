@@ -13,11 +13,11 @@
 //! one that begins with `=` any bytes as they stand.
 //!
 //! A board: words parted by spaces; what they do not name is as on a fresh board of
-//! type "C". A number is memory's length; `+` begins a file,
-//! its record and behind a second `=` its content; `crowd=64*1` is 64 TEXT files of
-//! SIZE 1; `hour=24` sets a field, `index:A=7` an entry, `at:30=x` bytes of memory,
-//! `length=63` cuts memory or makes it longer, and these come last, so that amount
-//! and index are right for the files but where a word says otherwise.
+//! type "C". A number is memory's length; `+` begins a file, its record and behind a `=`
+//! its content; `crowd=64*1` is 64 TEXT files of SIZE 1; `hour=24` sets a field,
+//! `index:A=7` an entry, `at:30=x` bytes of memory, `length=63` cuts memory or makes it
+//! longer. These come last, so that amount and index are right for the files but where
+//! a word says otherwise.
 
 use crate::board::index::{Index, NO_PLACE};
 use crate::board::settings::Settings;
