@@ -41,16 +41,16 @@ impl Sign {
     /// A fresh board that has been given the twelve files; without them where one of
     /// the two is refused.
     pub fn with_files() -> Sign {
-        let mut board = Board {
-            memory: vec![NUL; MEMORY_LENGTH],
-            ..Board::default()
+        let mut sign = Sign {
+            board: Board {
+                memory: vec![NUL; MEMORY_LENGTH],
+                ..Board::default()
+            },
+            reply: vec![NUL; MEMORY_LENGTH + REPLY_MARGIN],
         };
-        let reply = vec![NUL; MEMORY_LENGTH + REPLY_MARGIN];
-        if fresh(&mut board, OWN_TYPE).is_err() {
-            return Sign { board, reply };
+        if fresh(&mut sign.board, OWN_TYPE).is_ok() {
+            sign.run_all(&[files_frame()]);
         }
-        let mut sign = Sign { board, reply };
-        sign.run_all(&[files_frame()]);
         sign
     }
 
