@@ -5,7 +5,7 @@ use second::board::soundness::is_memory_length;
 use second::board::Board;
 use second::compare::answer::Given;
 use second::compare::stream::Case;
-use second::frame::header::pairs;
+use second::frame::header::{capitals, pairs};
 use second::frame::reforming::reform;
 use second::frame::translation::MOST_PRINTABLE;
 
@@ -133,7 +133,11 @@ fn of_join(facts: &mut Facts, [first, second]: [&Vec<u8>; 2], number: u8) {
     let frames = (frames::read_parts(first), frames::read_parts(second));
     if let (Some((one, blocks)), Some((two, more))) = frames {
         let count = blocks.len() + more.len();
+        let is_parted = capitals(&one) != capitals(&two);
         shown! { facts;
+            number == 17 && is_parted => "order 17 12";
+            number == 12 && frames::ends_with_read(first) => "order 12 13";
+            number == 13 && count > 64 => "order 13 18";
             number == 0 && one != two => "J letters";
             number == 12 && one.eq_ignore_ascii_case(&two) => "J case of a type";
             number != 12 && number != 13 => "J blocks {count} {}", u8::from(number == 18);

@@ -3,7 +3,7 @@
 
 use second::board::settings::Settings;
 use second::bytes::{ANY_DIGIT, COMMA, STX};
-use second::frame::body::is_read;
+use second::frame::body::{has_read, is_read};
 use second::frame::forms::needs_escape;
 use second::frame::header::{addressed, fit_of, pairs, Fit};
 use second::frame::lead::after_lead;
@@ -22,6 +22,11 @@ pub fn read_parts(raw: &[u8]) -> Option<(Vec<u8>, Vec<Vec<u8>>)> {
     let frame = read(&translated).ok()?;
     let data = frame.blocks.iter().map(|block| block.data.to_vec());
     Some((frame.header.to_vec(), data.collect()))
+}
+
+/// Whether the last block of a frame that reads well is a read.
+pub fn ends_with_read(raw: &[u8]) -> bool {
+    translate(raw).is_ok_and(|bytes| read(&bytes).is_ok_and(|frame| has_read(&frame.blocks)))
 }
 
 /// How long a result of these data is before escapes.

@@ -52,6 +52,6 @@ D day 30 to 28|29; D day 29 to 28|29; D leap day kept; D whole years back
 T offset -128|-10|10|127 1; T offset -9|9 0; T reading -32768|-129|128|32767 33
 T reading -128|127 0; T sum -137|-119|118|136; P fixed 00|10|11 1; P bit 0|1|2 comes 0|1 is 0|1
 P bit 3|4|5|7 comes 1 is 0; P not mended; P settings of no board; order 1 2|frame; order 2 frame
-order 15 6|first; order 6 16; order 16 18; order first second; order 10 11; order 20 21|22
+order 15 6|first; order 6 16; order 16 18; order first second; order 17 12; order 12 13; order 13 18; order 10 11; order 20 21|22
 order 22 23; order 25 26|27; order 26 27; order 30 31|32; order 31 32; order 1 33
 "#;

@@ -8,7 +8,6 @@
 //!   named is as it was, but for the bit of the register that 20, 21 and 23 set.
 //! - of an output: `out=..` header and blocks as a frame without its sums and escapes.
 //! - of a date or a number: itself.
-//! - `?` in the place of a text: whatever it is.
 
 use std::collections::BTreeSet;
 
@@ -18,7 +17,7 @@ use second::board::settings::Settings;
 use second::board::Board;
 use second::compare::answer::{Answer, Given};
 use second::compare::stored::notation::{
-    board, bytes, frame, number, repeated, reply, set, FILLER,
+    board, bytes, frame, number as value_of, repeated, reply, set, FILLER,
 };
 use second::compare::stored::{date, stored, Row};
 use second::compare::stream::Case;
@@ -94,7 +93,7 @@ fn told(row: &Row) -> String {
 /// Whether a row answers what it says.
 fn check(row: Row) -> bool {
     let mut words: Vec<&str> = row.expected.split(' ').collect();
-    let expected = number(words.remove(0)) as u8;
+    let expected = value_of(words.remove(0)) as u8;
     let Answer { number, given } = row.case.clone().answer();
     match (row.case, given) {
         (Case::Fresh { own_type, memory }, Given::Board(after)) => {
@@ -113,7 +112,7 @@ fn check(row: Row) -> bool {
                 && meant.done.is_none_or(|done| done == ran.done)
                 && meant.refused == ran.refused
                 && meant.first == (ran.first_place, ran.first_number)
-                && meant.is_board(&after)
+                && meant.board == after
                 && is_reply(&words, ran, &reply, &replied)
         }
         (case, Given::Output { length, output }) => {
@@ -124,7 +123,7 @@ fn check(row: Row) -> bool {
             number == expected && after == meant
         }
         (_, Given::Value(after)) => {
-            let meant = words.first().map_or(0, |word| self::number_of(word));
+            let meant = words.first().map_or(0, |word| value_of(word) as i32);
             number == expected && after == meant
         }
         (Case::Port { settings, .. }, Given::Settings(after)) => {
@@ -137,10 +136,6 @@ fn check(row: Row) -> bool {
         }
         _ => false,
     }
-}
-
-fn number_of(word: &str) -> i32 {
-    number(word) as i32
 }
 
 /// "A fresh board has 00:00, 01 01 00, format S, speaker off, address 00, no files,
@@ -162,54 +157,58 @@ struct Meant {
     refused: usize,
     first: (usize, u8),
     board: Board,
-    has_any_memory: bool,
 }
 
 impl Meant {
-    fn new(expected: u8, words: &[&str], before: Board) -> Meant {
+    /// What a row's number and words mean on this board.
+    fn new(expected: u8, words: &[&str], board: Board) -> Meant {
         let is_block = expected >= 20;
         let mut meant = Meant {
             number: if is_block { 0 } else { expected },
             done: (expected != 0 && !is_block).then_some(0),
             refused: usize::from(is_block),
-            first: (usize::from(is_block), if is_block { expected } else { 0 }),
-            has_any_memory: words.contains(&"memory=?"),
-            board: before.clone(),
+            first: (0, 0),
+            board,
         };
+        if is_block {
+            meant.refuse(1, expected);
+        }
         let (of_files, others): (Vec<&str>, Vec<&str>) =
             words.iter().partition(|word| is_of_files(word));
         if !of_files.is_empty() {
-            let files = format!("{} {}", before.memory.len(), of_files.join(" "));
-            let laid = board(files.trim_end_matches("empty"));
-            meant.board.memory = laid.memory;
-            meant.board.settings.files = laid.settings.files;
-            meant.board.settings.unused = laid.settings.unused;
-            meant.board.settings.index = laid.settings.index;
+            meant.lay(&of_files.join(" "));
         }
         for word in others {
             if let Some((done, refused)) = counts(word, '+') {
-                meant.done = Some(done);
-                meant.refused = refused;
+                (meant.done, meant.refused) = (Some(done), refused);
             } else if let Some((place, first)) = counts(word, ':') {
                 assert!(!is_block || first == usize::from(expected));
-                meant.first = (place, first as u8);
+                meant.refuse(place, first as u8);
+            } else if !word.starts_with("reply=") {
+                change(&mut meant.board, word);
             }
         }
-        meant.board.settings.register |= match meant.first.1 {
+        meant
+    }
+
+    /// The first refused block, and the bit of the register that it sets.
+    fn refuse(&mut self, place: usize, number: u8) {
+        self.first = (place, number);
+        self.board.settings.register |= match number {
             20 => 0x10,
             21 | 23 => 0x20,
             _ => 0,
         };
-        let is_change = |word: &&&str| word.contains('=') && !is_of_files(word);
-        let other = |word: &&&str| !word.starts_with("reply=") && **word != "memory=?";
-        let changes = words.iter().filter(is_change).filter(other);
-        changes.for_each(|word| change(&mut meant.board, word));
-        meant
     }
 
-    fn is_board(&self, after: &Board) -> bool {
-        after.settings == self.board.settings
-            && (self.has_any_memory || after.memory == self.board.memory)
+    /// Files in the place of those that were there.
+    fn lay(&mut self, files: &str) {
+        let length = self.board.memory.len();
+        let laid = board(&format!("{length} {}", files.trim_end_matches("empty")));
+        self.board.memory = laid.memory;
+        self.board.settings.files = laid.settings.files;
+        self.board.settings.unused = laid.settings.unused;
+        self.board.settings.index = laid.settings.index;
     }
 }
 
@@ -246,11 +245,7 @@ fn change(meant: &mut Board, word: &str) {
 /// nothing at all where there is no reply."
 fn is_reply(words: &[&str], ran: Ran, before: &[u8], after: &[u8]) -> bool {
     let word = words.iter().find_map(|word| word.strip_prefix("reply="));
-    let meant = match word {
-        Some("?") => after[..ran.reply_length].to_vec(),
-        Some(block) => reply(block),
-        None => Vec::new(),
-    };
+    let meant = word.map_or(Vec::new(), reply);
     ran.reply_length == meant.len()
         && after.starts_with(&meant)
         && after[meant.len()..] == before[meant.len()..]
@@ -264,11 +259,7 @@ fn is_output(words: &[&str], case: &Case, length: usize, after: &[u8]) -> bool {
         _ => 0,
     };
     let word = words.iter().find_map(|word| word.strip_prefix("out="));
-    let meant = match word {
-        Some("?") => after[..length].to_vec(),
-        Some(sketch) => in_form(form, sketch),
-        None => Vec::new(),
-    };
+    let meant = word.map_or(Vec::new(), |sketch| in_form(form, sketch));
     length == meant.len()
         && after.starts_with(&meant)
         && after[meant.len()..].iter().all(|&byte| byte == FILLER)

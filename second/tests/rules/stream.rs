@@ -1,5 +1,5 @@
-//! The stream: what is written reads back, what cannot be read ends it, and the lines
-//! are laid out as REPLAY says.
+//! The stream: what is written reads back, what cannot be read ends it, and how the
+//! lines are laid out.
 
 use second::compare::stored::{rows, stored};
 use second::compare::stream::{cases, replay, Case, CALLS};

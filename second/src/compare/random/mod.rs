@@ -31,7 +31,7 @@ const RUN: &str = "damage of a run: 82 board, 2 reply, 13 header, 24 frame";
 const WRITE: &str = "damage of a write: 2 form, 10 header, 6 command, 6 data, 9 long";
 const REFORM: &str = "damage of a re-forming: 2 form, 5 second, 2 second sum, 1 long alone";
 const JOIN: &str = "damage of a joining: 2 form, 17 first, 9 second, 8 second, 3 first sum, \
-    3 second sum, 3 header, 2 header, 2 read, 2 read, 4 blocks, 1 long";
+    3 second sum, 3 header, 2 header, 2 read, 2 read, 2 blocks, 2 blocks, 1 long";
 
 /// Cases without end.
 pub fn random_cases(seed: u64) -> impl Iterator<Item = Case> {
@@ -266,7 +266,7 @@ fn two_frames(dice: &mut Dice, form: u8, hits: &[&str]) -> [Vec<u8>; 2] {
         part_headers(dice, &mut first.header, &mut second.header);
     }
     if is_hit("blocks") {
-        let total = MOST_BLOCKS + dice.turn("blocks of two", &[0, 1]);
+        let total = MOST_BLOCKS + dice.turn("blocks of two", &[0, 1, 1]);
         let some = dice.between(1, total - 1);
         first.repeat_blocks(some);
         second.repeat_blocks(total - some);
