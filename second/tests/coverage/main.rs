@@ -106,7 +106,7 @@ fn the_cases_of_the_gate_show_every_fact_of_the_table() {
     assert_shown([of_gate("seed=")].into_iter());
 }
 
-/// No part of the gate, since it takes as long as all other tests together.
+/// No part of the gate, since it takes several times as long as all other tests.
 #[test]
 #[ignore = "takes a while: cargo test --release -- --ignored"]
 fn the_cases_of_twenty_seeds_show_every_fact_of_the_table() {

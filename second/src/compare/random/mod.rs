@@ -23,7 +23,7 @@ use crate::board::Board;
 use crate::frame::body::{is_read, MOST_BLOCKS};
 use crate::frame::translation::{MOST_PRINTABLE, MOST_TRANSLATED};
 
-/// How often each call is made in 720 cases.
+/// How often each call is made in 719 cases.
 const CALLS: &str = "call: 32 N, 330 R, 54 W, 58 F, 86 J, 62 D, 36 Y, 31 B, 17 T, 13 P";
 /// What is damaged in the cases of a call. Sorts that stand twice come in more of the
 /// cases that have two damages.
