@@ -27,6 +27,7 @@ ghost use lib.ListN.{length, drop};
 ghost use Rattle.octets.specs.Choice.{if_then_else_, _is_, _≤?_, between};
 ghost use Rattle.board.specs.Files.{STRING};
 ghost use Rattle.board.specs.Index.{entry};
+ghost use Rattle.board.specs.Board.{board};
 ghost use Rattle.board.specs.Soundness.{isLabel, isKind, isProtection, isStartCode, isStopCode, isCodes, isRecord, isContent, isMemory, sound};
 ghost use Rattle.board.specs.InnerNoted.{sizeOrNone, recordOrNone, lengthAt, entries, holdsNoted, soundNoted};
 
@@ -267,7 +268,7 @@ fn sound_memory(m: &[u8], n: u8, rest: u16, places: &[u16]) -> bool
 
 // Soundness of a board, whatever its settings and its memory are.
 pub fn sound(s: Settings, m: &[u8]) -> bool
-    ensures { λ r. ⌜ r ≡ sound s (now (m .entry)) ⌝ }
+    ensures { λ r. ⌜ r ≡ sound (board s (now (m .entry))) ⌝ }
 {
     if !in_range(s) {
         return false;

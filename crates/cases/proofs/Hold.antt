@@ -85,7 +85,7 @@ unfolding lettersShown bytes start inTurn onFresh base
 letters-shown =
     refl & refl & refl & refl & refl & refl & refl & refl & refl & refl
     & refl & refl
-    & (λ s m o. capitals-alike s m o (bytes "_01Zaf,a?b_02AAHELLO_0301fb_04") (bytes "_01ZAF,a?B_02AAHELLO_0301FB_04") refl) & tt
+    & (λ b o. capitals-alike b o (bytes "_01Zaf,a?b_02AAHELLO_0301fb_04") (bytes "_01ZAF,a?B_02AAHELLO_0301FB_04") refl) & tt
 
 pub shown : Every Shows witnesses
 unfolding witnesses bytes start inTurn onFresh base

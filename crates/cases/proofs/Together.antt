@@ -8,8 +8,7 @@ use Rattle.octets.specs.Buffer.{zeros}
 use Rattle.writing.specs.Joining.{join}
 use Rattle.frame.specs.Results.{resultOf}
 use Rattle.board.specs.Soundness.{sound}
-use Rattle.sign.specs.Run.{tally, Outcome}
-use Rattle.sign.specs.Packing.{next}
+use Rattle.sign.specs.Run.{tally, Outcome, next}
 use Rattle.packing.specs.Packed.{Joining, SameAsInTurn}
 use Rattle.packing.proofs.Answer.{packed}
 use Rattle.sheet.specs.Sheet.{bytes, start}
@@ -59,16 +58,16 @@ joins =
 pub together : SameAsInTurn one other both
 unfolding before one other both first bytes start base
 together =
-    packed 3 first second joined joins (before .answer .settings) (before .memory) (before .reply) one other both refl refl refl refl
+    packed 3 first second joined joins (before .after) (before .reply) one other both refl refl refl refl
 
 -- on a sound board, where it has done four blocks, refused one and replied: so the instance says something
 pub record Seen : Type 0 where
-  pub sound : sound (before .answer .settings) (before .memory) ≡ true
-  pub counts : both .answer .tally ≡ tally 4 1 4 23 37
-  pub stored : take 21 (both .memory) ≡ bytes "AAU000AFF00FULL\0\0\0\0\0\0"
+  pub sound : sound (before .after) ≡ true
+  pub counts : both .tally ≡ tally 4 1 4 23 37
+  pub stored : take 21 (both .after .memory) ≡ bytes "AAU000AFF00FULL\0\0\0\0\0\0"
   pub replied : take 37 (both .reply) ≡ bytes "\0\0\0\0\0\0\0\0\0\0\0\0\0\0\0\0\0\0\0\0\u{1}000\u{2}AAFULL\u{3}01BA\u{4}"
   -- request 10: the block that was refused with 23 is in the register
-  pub errors : both .answer .settings .errors ≡ 0x60
+  pub errors : both .after .settings .errors ≡ 0x60
 
 pub seen : Seen
 unfolding before both joined first second bytes start base

@@ -3,11 +3,10 @@ use Prim.Native.Nat.{ℕ}
 use Prim.Native.String.{String}
 use mathlib.Core.List.{List, [], _∷_, _++_}
 use lib.ListN.{drop}
-use Rattle.octets.specs.Buffer.{zeros}
 use Rattle.octets.specs.Decimal.{decimal2}
 use Rattle.board.specs.Settings.{withDate}
 use Rattle.sheet.specs.Sheet.{bytes}
-use Rattle.cases.specs.Numbers.{Call, refusing, running, Row, row, at, E'S}
+use Rattle.cases.specs.Numbers.{Call, refusing, Row, row, having, E'S}
 
 -- Set Date with these data, "six digits MmDdYy"
 abbrev pub sent : List ℕ → Call
@@ -15,7 +14,7 @@ sent d = refusing 64 ((bytes "_01Z00_02E;" ++ d ++ bytes "_04") ∷ [])
 
 -- a frame on a board that holds this month, day and year, all else in range
 abbrev pub held : ℕ → ℕ → ℕ → Call
-held m d y = running (withDate (at 64 0 0) m d y) (zeros 64) 128 E'S
+held m d y = having (λ s. withDate s m d y) E'S
 
 -- the date of such data
 abbrev pub heldAs : List ℕ → Call

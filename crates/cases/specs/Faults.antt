@@ -5,7 +5,6 @@ use Prim.Native.String.{String}
 use mathlib.Core.Path.{_≡_}
 use mathlib.Core.List.{List, [], _∷_}
 use lib.ListN.{take}
-use Rattle.octets.specs.Buffer.{zeros}
 use Rattle.octets.specs.Bytes.{E}
 use Rattle.board.specs.Settings.{withErrors}
 use Rattle.board.specs.declared.Settings.{Settings}
@@ -13,11 +12,11 @@ use Rattle.effects.specs.Reply.{replyOf}
 use Rattle.special.specs.Special.{ERRORS}
 use Rattle.sign.specs.Errors.{drivenAs, portErrors}
 use Rattle.sheet.specs.Sheet.{Example, replies, Says, onFresh}
-use Rattle.cases.specs.Numbers.{Call, running, Row, row, blockNumber, at, E'S}
+use Rattle.cases.specs.Numbers.{Call, Row, row, blockNumber, at, having, E'S}
 
 -- a frame on a board that holds this register
 abbrev pub holding : ℕ → Call
-holding r = running (withErrors (at 64 0 0) r) (zeros 64) 128 E'S
+holding r = having (λ s. withErrors s r) E'S
 
 -- "1 for a register whose fixed bits are not as the table has them"
 unfoldable pub registersTable : List Row
@@ -31,7 +30,7 @@ registersTable =
 
 -- settings at 24:00 with this register: the port driver's call looks at nothing else
 abbrev pub late : ℕ → Settings
-late r = withErrors (at 64 24 0) r
+late r = withErrors (at 64 24 0 .settings) r
 
 -- what is seen of the register; frames run on a fresh board of 64 bytes
 pub data Fault : Type 0 where
@@ -41,10 +40,10 @@ pub data Fault : Type 0 where
   example : Example → Fault
 
 abbrev pub Shows : Fault → Type 0
-Shows (leaves fs n r) = (blockNumber (onFresh 64 fs .answer) ≡ n) × (onFresh 64 fs .answer .settings .errors ≡ r)
+Shows (leaves fs n r) = (blockNumber (onFresh 64 fs) ≡ n) × (onFresh 64 fs .after .settings .errors ≡ r)
 Shows (tells fs r) =
-    (take (onFresh 64 fs .answer .tally .length) (onFresh 64 fs .reply) ≡ replyOf E ERRORS (r ∷ []))
-    × (onFresh 64 fs .answer .settings .errors ≡ 0x40)
+    (take (onFresh 64 fs .tally .length) (onFresh 64 fs .reply) ≡ replyOf E ERRORS (r ∷ []))
+    × (onFresh 64 fs .after .settings .errors ≡ 0x40)
 Shows (drives r b n x) = portErrors (late r) b ≡ drivenAs n (late x)
 Shows (example e) = Says e
 

@@ -1,22 +1,25 @@
 -- Request 7, "Sixty files and a slow lookup.": boards with a wrong index, each beside the one with the right index.
-use Prim.Native.Nat.{ℕ, _+_, _-_}
+use Prim.Native.Nat.{ℕ, _-_}
 use Prim.Native.String.{String}
 use mathlib.Core.List.{List, [], _∷_, _++_}
-use lib.ListN.{length, set}
+use lib.ListN.{set}
 use Rattle.board.specs.Settings.{withFiles}
 use Rattle.board.specs.Index.{FIRST-LABEL, NOWHERE}
-use Rattle.board.specs.declared.Settings.{Settings}
+use Rattle.board.specs.Board.{Board, withSettings, withMemory}
+use Rattle.effects.specs.Reply.{replyRoom}
 use Rattle.sign.specs.Run.{Outcome}
 use Rattle.sheet.specs.Sheet.{onFresh}
 use Rattle.cases.specs.Numbers.{Call, running, Row, row, E'S}
 
--- settings with another place for a label
-abbrev pub placing : Settings → ℕ → ℕ → Settings
-placing s label place = withFiles s (s .files) (s .unused) (set (s .places) (label - FIRST-LABEL) place)
+-- a board with another place for a label
+abbrev pub placing : Board → ℕ → ℕ → Board
+placing b label place =
+    let s = b .settings in
+    withSettings b (withFiles s (s .files) (s .unused) (set (s .places) (label - FIRST-LABEL) place))
 
 -- a frame on the board that a run left, but with this place for a label
 abbrev pub indexing : Outcome → ℕ → ℕ → Call
-indexing x label place = running (placing (x .answer .settings) label place) (x .memory) (length (x .memory) + 64) E'S
+indexing x label place = running (placing (x .after) label place) (replyRoom (x .after .memory)) E'S
 
 -- a fresh board of 512 bytes after frames: places of a label that are wrong on it, and the one that is right
 unfoldable pub misplaced : List String → ℕ → List ℕ → ℕ → List Row
@@ -31,8 +34,8 @@ two = "_01Z00_02E$AAU0010FF00SBL00080000_04" ∷ []
 -- a frame on that board, its second file under another label: "S" has no entry, the new label has that file's, and then "A" has this one
 abbrev pub relabelled : Outcome → ℕ → ℕ → Call
 relabelled x label place =
-    running (placing (placing (placing (x .answer .settings) 0x53 NOWHERE) label 27) 0x41 place) (set (x .memory) 27 label)
-    (length (x .memory) + 64) E'S
+    let b = x .after in
+    running (withMemory (placing (placing (placing b 0x53 NOWHERE) label 27) 0x41 place) (set (b .memory) 27 label)) (replyRoom (b .memory)) E'S
 
 -- "1 when it is wrong"
 unfoldable pub indexTable : List Row

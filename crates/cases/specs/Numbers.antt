@@ -7,13 +7,13 @@ use lib.ListN.{replicate}
 use Rattle.octets.specs.Choice.{if_then_else_, _is_, _isn't_, _≤?_}
 use Rattle.octets.specs.Buffer.{zeros}
 use Rattle.board.specs.Settings.{withTime}
+use Rattle.board.specs.Board.{Board, board, withSettings, withMemory}
 use Rattle.board.specs.declared.Settings.{Settings}
 use Rattle.writing.specs.Writing.{write}
 use Rattle.writing.specs.Reforming.{reform}
 use Rattle.writing.specs.Joining.{join}
-use Rattle.sign.specs.Run.{run}
+use Rattle.sign.specs.Run.{Outcome, run}
 use Rattle.sign.specs.Fresh.{freshSettings, fresh}
-use Rattle.sign.specs.declared.Answer.{Answer}
 use Rattle.sheet.specs.Sheet.{bytes, start, inTurn}
 
 -- a call; buffers and fresh memory are given by their lengths and start as zeros
@@ -21,21 +21,21 @@ pub data Call : Type 0 where
   freshBoard : ℕ → ℕ → Call  -- own type, memory
   frames : ℕ → List (List ℕ) → Call  -- memory of a fresh board of type "C", frames: the last one's number
   refusing : ℕ → List (List ℕ) → Call  -- the same: the number of the last one's first refused block, 0 where one is done and none refused
-  running : Settings → List ℕ → ℕ → List ℕ → Call  -- settings, memory, reply buffer, frame
+  running : Board → ℕ → List ℕ → Call  -- board, reply buffer, frame
   writing : ℕ → List ℕ → ℕ → List ℕ → ℕ → Call  -- form, header, command, data, output buffer
   reforming : ℕ → List ℕ → ℕ → Call  -- form, frame, output buffer
   joining : ℕ → List ℕ → List ℕ → ℕ → Call  -- form, first frame, second frame, output buffer
 
 -- of a frame that ran: the number of its first refused block, or 0 where none is refused and one is done; else no number that comes back
-unfoldable pub blockNumber : Answer → ℕ
-blockNumber a = if a .number is 0 && (a .tally .reason isn't 0 || 1 ≤? a .tally .done) then a .tally .reason else 99
+unfoldable pub blockNumber : Outcome → ℕ
+blockNumber x = if x .number is 0 && (x .tally .reason isn't 0 || 1 ≤? x .tally .done) then x .tally .reason else 99
 
 -- the number that it answers
 unfoldable pub numberOf : Call → ℕ
-numberOf (freshBoard t n) = fresh t (zeros n) .answer .number
-numberOf (frames n fs) = inTurn (start n) fs .answer .number
-numberOf (refusing n fs) = blockNumber (inTurn (start n) fs .answer)
-numberOf (running s m o f) = run s m (zeros o) f .answer .number
+numberOf (freshBoard t n) = fresh t (zeros n) .number
+numberOf (frames n fs) = inTurn (start n) fs .number
+numberOf (refusing n fs) = blockNumber (inTurn (start n) fs)
+numberOf (running b o f) = run b (zeros o) f .number
 numberOf (writing k h c d o) = write k h c d (zeros o) .answer .number
 numberOf (reforming k f o) = reform k f (zeros o) .answer .number
 numberOf (joining k f g o) = join k f g (zeros o) .answer .number
@@ -58,9 +58,13 @@ unfoldable pub allHold : List Row → Bool
 allHold [] = true
 allHold (r ∷ rs) = holds r && allHold rs
 
--- settings of a fresh board of type "C" with so much memory, at a time
-abbrev pub at : ℕ → ℕ → ℕ → Settings
-at k h n = withTime (freshSettings 0x43 k) h n
+-- a fresh board of type "C" with so much memory, at a time
+abbrev pub at : ℕ → ℕ → ℕ → Board
+at k h n = board (withTime (freshSettings 0x43 k) h n) (zeros k)
+
+-- a frame on such a board of 64 bytes, with what is made of its settings
+abbrev pub having : (Settings → Settings) → List ℕ → Call
+having f frame = running (withSettings (at 64 0 0) (f (at 64 0 0 .settings))) 128 frame
 
 -- a list again and again
 unfoldable pub times : ℕ → List ℕ → List ℕ
@@ -98,11 +102,11 @@ E'S = bytes "_01Z00_02E'S_04"
 unfoldable pub numbersTable : List Row
 numbersTable =
     -- 1 "board not sound"
-    row 1 (running (at 64 24 0) (zeros 64) 128 E'S) (running (at 64 23 0) (zeros 64) 128 E'S)
-    ∷ row 1 (running (at 63 0 0) (zeros 63) 128 E'S) (running (at 64 0 0) (zeros 64) 128 E'S)
-    ∷ row 1 (running (at 64 0 0) (zeros 63 ++ (1 ∷ [])) 128 E'S) (running (at 64 0 0) (zeros 64) 128 E'S)
+    row 1 (running (at 64 24 0) 128 E'S) (running (at 64 23 0) 128 E'S)
+    ∷ row 1 (running (at 63 0 0) 128 E'S) (running (at 64 0 0) 128 E'S)
+    ∷ row 1 (running (withMemory (at 64 0 0) (zeros 63 ++ (1 ∷ []))) 128 E'S) (running (at 64 0 0) 128 E'S)
     -- 2 "reply buffer shorter than memory plus 64"
-    ∷ row 2 (running (at 64 0 0) (zeros 64) 127 E'S) (running (at 64 0 0) (zeros 64) 128 E'S)
+    ∷ row 2 (running (at 64 0 0) 127 E'S) (running (at 64 0 0) 128 E'S)
     -- 3 "input empty, over 8,192 bytes standard or 24,576 printable, or over 8,192 translated"
     ∷ row 3 (frames 64 ([] ∷ [])) (frames 64 (E'S ∷ []))
     ∷ row 3 (frames 64 (long 8175 ∷ [])) (frames 64 (long 8174 ∷ []))

@@ -6,13 +6,13 @@ use mathlib.Core.List.{List, [], _∷_}
 use lib.ListN.{set}
 use Rattle.octets.specs.Buffer.{zeros}
 use Rattle.board.specs.Settings.{withAddress}
+use Rattle.board.specs.Board.{Board, withMemory}
 use Rattle.writing.specs.Writing.{write}
 use Rattle.writing.specs.Reforming.{reform}
 use Rattle.writing.specs.Joining.{join}
 use Rattle.frame.specs.Results.{resultOf}
-use Rattle.sign.specs.Run.{Outcome}
 use Rattle.sheet.specs.Sheet.{bytes, Example, numbers, stores, replies, alike, Says, onFresh}
-use Rattle.cases.specs.Numbers.{Call, frames, refusing, running, writing, joining, Row, row, at, E'S}
+use Rattle.cases.specs.Numbers.{Call, frames, refusing, running, writing, joining, Row, row, having, E'S}
 
 -- a byte of a frame, and a block of it
 abbrev pub frame : String → Call
@@ -23,13 +23,13 @@ block f = refusing 64 (bytes f ∷ [])
 
 -- a frame on a board at address AF
 abbrev pub at-AF : String → Call
-at-AF f = running (withAddress (at 64 0 0) 0xAF) (zeros 64) 128 (bytes f)
+at-AF f = having (λ s. withAddress s 0xAF) (bytes f)
 
 -- a frame on a board whose file "A" has ten bytes, with this byte at a place of its record
 abbrev pub holding : ℕ → ℕ → Call
 holding k x =
-    let b : Outcome = onFresh 64 ("_01Z00_02E$AAU000AFF00_04" ∷ []) in
-    running (b .answer .settings) (set (b .memory) k x) 128 E'S
+    let b : Board = onFresh 64 ("_01Z00_02E$AAU000AFF00_04" ∷ []) .after in
+    running (withMemory b (set (b .memory) k x)) 128 E'S
 
 -- two frames joined in form 2
 abbrev pub both : String → String → Call

@@ -8,11 +8,11 @@ use lib.IntN.{ℤ, pos}
 use Rattle.octets.specs.Buffer.{zeros}
 use Rattle.temperature.specs.Correcting.{corrected, addOffset}
 use Rattle.board.specs.Settings.{withOffset}
-use Rattle.board.specs.declared.Settings.{Settings}
+use Rattle.board.specs.Board.{Board, board}
 use Rattle.sign.specs.Run.{tally, outcomeAs, run}
 use Rattle.sign.specs.Fresh.{freshSettings}
 use Rattle.sheet.specs.Sheet.{bytes}
-use Rattle.cases.specs.Numbers.{Call, refusing, running, Row, row, at, E'S}
+use Rattle.cases.specs.Numbers.{Call, refusing, Row, row, having, E'S}
 use Rattle.cases.specs.Renewals.{on, back}
 
 -- Set Temperature Offset with these data
@@ -24,7 +24,7 @@ sets d = refusing 64 (setting d ∷ [])
 
 -- a frame on a board that holds this offset
 abbrev pub holding : ℤ → Call
-holding z = running (withOffset (at 64 0 0) z) (zeros 64) 128 E'S
+holding z = having (λ s. withOffset s z) E'S
 
 -- "22 for a bad field; 1 for an offset outside -9 to 9"; "Read Temperature Offset" is no function of ours
 unfoldable pub offsetsTable : List Row
@@ -52,9 +52,9 @@ offsetsTable =
     ∷ row 1 (holding (on 127)) (holding (on 0))
     ∷ []
 
--- settings of a fresh board of a type, with an offset
-abbrev pub warm : ℕ → ℤ → Settings
-warm t z = withOffset (freshSettings t 64) z
+-- a fresh board of a type, with an offset
+abbrev pub warm : ℕ → ℤ → Board
+warm t z = board (withOffset (freshSettings t 64) z) (zeros 64)
 
 -- a call and what it answers
 pub data Measured : Type 0 where
@@ -63,8 +63,7 @@ pub data Measured : Type 0 where
 
 abbrev pub Measures : Measured → Type 0
 Measures (stores t d z) =
-    run (warm t (pos 5)) (zeros 64) (zeros 128) (setting d)
-    ≡ outcomeAs 0 (tally 1 0 0 0 0) (warm t z) (zeros 64) (zeros 128)
+    run (warm t (pos 5)) (zeros 128) (setting d) ≡ outcomeAs 0 (tally 1 0 0 0 0) (warm t z) (zeros 128)
 Measures (adds o r n z) = addOffset o r ≡ corrected n z
 
 unfoldable pub temperaturesTable : List Measured

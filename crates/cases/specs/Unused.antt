@@ -1,9 +1,10 @@
 -- Request 3, "Unused memory on every status page.": boards that keep a wrong amount, each beside the right one.
-use Prim.Native.Nat.{ℕ, _+_}
+use Prim.Native.Nat.{ℕ}
 use Prim.Native.String.{String}
 use mathlib.Core.List.{List, [], _∷_, _++_}
-use lib.ListN.{length}
 use Rattle.board.specs.Settings.{withFiles}
+use Rattle.board.specs.Board.{withSettings}
+use Rattle.effects.specs.Reply.{replyRoom}
 use Rattle.sign.specs.Run.{Outcome}
 use Rattle.sheet.specs.Sheet.{onFresh}
 use Rattle.cases.specs.Numbers.{Call, running, Row, row, E'S}
@@ -11,8 +12,8 @@ use Rattle.cases.specs.Numbers.{Call, running, Row, row, E'S}
 -- a frame on the board that a run left, but with this amount
 abbrev pub keeping : Outcome → ℕ → Call
 keeping x u =
-    let s = x .answer .settings in
-    running (withFiles s (s .files) u (s .places)) (x .memory) (length (x .memory) + 64) E'S
+    let s = x .after .settings in
+    running (withSettings (x .after) (withFiles s (s .files) u (s .places))) (replyRoom (x .after .memory)) E'S
 
 -- a fresh board of so much memory after frames: amounts that are wrong on it, and the one that is right
 unfoldable pub wrongOn : ℕ → List String → List ℕ → ℕ → List Row

@@ -12,7 +12,7 @@ pub data Witness : Type 0 where
   example : Example → Witness
 
 abbrev pub Shows : Witness → Type 0
-Shows (counts n fs d r p f) = onFresh n fs .answer .tally ≡ tally d r p f 0
+Shows (counts n fs d r p f) = onFresh n fs .tally ≡ tally d r p f 0
 Shows (example e) = Says e
 
 -- TEXT A of ten bytes

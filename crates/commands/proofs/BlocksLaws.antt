@@ -1,115 +1,104 @@
 -- The command by its byte, and the sum before it.
 use Prim.Native.Nat.{ℕ}
-use mathlib.Core.Path.{_≡_, sym, ap, ap₂, _∙_}
-use mathlib.Core.Bool.{Bool, true, false, not}
+use mathlib.Core.Path.{_≡_, refl, sym, ap, _∙_}
+use mathlib.Core.Bool.{Bool, true, false, not, _&&_, _||_}
 use mathlib.Core.List.{List}
 use borrow.Author.Needs.{needs}
-use borrow.Author.Tests.{ne-eqb}
-use lib.ListN.{length}
+use borrow.Author.Tests.{eqb-true, ne-eqb, not-true, not-false}
+use Rattle.octets.specs.Choice.{_is_}
 use Rattle.octets.specs.Bytes.{A, B, E, F, G, H}
-use Rattle.octets.specs.Buffer.{overlay}
-use Rattle.buffers.proofs.Splices.{overlay-none}
+use Rattle.octets.proofs.Tests.{never}
 use Rattle.body.specs.Body.{block}
 use Rattle.board.specs.Files.{TEXT, STRING}
+use Rattle.board.specs.Board.{Board, board}
 use Rattle.board.specs.declared.Settings.{Settings}
-use Rattle.effects.specs.Effects.{Board, board, Effect}
-use Rattle.commands.specs.Commands.{writeFile, readFile}
-use Rattle.special.specs.Special.{writeSpecial, readSpecial}
-use Rattle.commands.specs.Blocks.{command, doBlock, runBlock}
-use Rattle.effects.specs.Recording.{withFault}
-use Rattle.effects.specs.InnerLeaving.{doneAs, Acts, Tells}
-use Rattle.commands.specs.InnerDoing.{Does}
+use Rattle.effects.specs.Effects.{Effect, refuse}
+use Rattle.effects.specs.InnerLeaving.{changing, doneAs, leftAs, leaving}
+use Rattle.effects.specs.declared.Changed.{Changed}
 use Rattle.effects.specs.declared.Done.{Done}
-use Rattle.effects.proofs.Outcomes.{acts-refused}
+use Rattle.effects.proofs.Outcomes.{left-quiet}
+use Rattle.special.specs.Special.{writeSpecial, readSpecial}
+use Rattle.commands.specs.Blocks.{command, doBlock}
+use Rattle.commands.specs.InnerDoing.{isSpecial, writing, reading, doing, filedAs, Puts, Files}
+use Rattle.commands.specs.declared.Filed.{Filed}
 
--- ---- a block, whatever its command
+-- ---- E and F
 
--- without a reply the buffer is as it was
-does-acts : (out : List ℕ) (e : Effect) (r : Done) (m : List ℕ) → Acts e r m → Does out e r m out
-does-acts out e r m a =
-    record {
-      number = a .number;
-      settings = a .settings;
-      stored = a .stored;
-      replied = sym (overlay-none out) ∙ ap (overlay out) (sym (a .quiet));
-      long = a .length ∙ ap length (sym (a .quiet));
-    }
+pub special-told : (code : ℕ) (right : Bool) → (right && (code is E || code is F)) ≡ isSpecial code right
+unfolding isSpecial
+special-told code right = refl
 
--- with one memory is as it was
-does-tells : (s : Settings) (m out : List ℕ) (e : Effect) (r : Done) (after : List ℕ) → Tells (board s m) out e r after → Does out e r m after
-does-tells s m out e r after t =
-    record {
-      number = t .number;
-      settings = t .settings;
-      stored = ap (λ (b : Board). b .memory) (sym (t .same));
-      replied = t .stored;
-      long = t .long;
-    }
-
--- ---- a block with a right sum; m′ and out′ are what is left
-
-module _ (s : Settings) (m : List ℕ) (code : ℕ) (text out : List ℕ) (right : Bool) (w : not right ≡ false) (r : Done) where
-  by-command : (m′ out′ : List ℕ) → Does out (command (board s m) code text) r m′ out′ → Does out (doBlock (board s m) (block code text right)) r m′ out′
-  unfolding doBlock
-  by-command m′ out′ d = rw w d
-
-  module _ (m′ : List ℕ) where
-    pub write-text : code ≡ A → Acts (writeFile TEXT (board s m) text) r m′ → Does out (doBlock (board s m) (block code text right)) r m′ out
-    unfolding command
-    write-text e a = by-command m′ out (rw e (does-acts out (writeFile TEXT (board s m) text) r m′ a))
-
-    pub write-string : code ≡ G → Acts (writeFile STRING (board s m) text) r m′ → Does out (doBlock (board s m) (block code text right)) r m′ out
-    unfolding command
-    write-string e a = by-command m′ out (rw e (does-acts out (writeFile STRING (board s m) text) r m′ a))
-
-    pub set-special : code ≡ E → Acts (writeSpecial (board s m) text) r m′ → Does out (doBlock (board s m) (block code text right)) r m′ out
-    unfolding command
-    set-special e a = by-command m′ out (rw e (does-acts out (writeSpecial (board s m) text) r m′ a))
-
-  module _ (out′ : List ℕ) where
-    pub read-text : code ≡ B → Tells (board s m) out (readFile TEXT A (board s m) text) r out′ → Does out (doBlock (board s m) (block code text right)) r m out′
-    unfolding command
-    read-text e t = by-command m out′ (rw e (does-tells s m out (readFile TEXT A (board s m) text) r out′ t))
-
-    pub read-string : code ≡ H → Tells (board s m) out (readFile STRING G (board s m) text) r out′ → Does out (doBlock (board s m) (block code text right)) r m out′
-    unfolding command
-    read-string e t = by-command m out′ (rw e (does-tells s m out (readFile STRING G (board s m) text) r out′ t))
-
-    pub get-special : code ≡ F → Tells (board s m) out (readSpecial (board s m) text) r out′ → Does out (doBlock (board s m) (block code text right)) r m out′
-    unfolding command
-    get-special e t = by-command m out′ (rw e (does-tells s m out (readSpecial (board s m) text) r out′ t))
-
-  pub unknown : (code ≡ A → ⊥) → (code ≡ G → ⊥) → (code ≡ B → ⊥) → (code ≡ H → ⊥) → (code ≡ E → ⊥) → (code ≡ F → ⊥) →
-      r ≡ doneAs 21 s 0 → Does out (doBlock (board s m) (block code text right)) r m out
+module _ (s : Settings) (m : List ℕ) (code : ℕ) (text out : List ℕ) where
+  pub get-special : code ≡ F → (r : Done) (out′ : List ℕ) → leftAs r m out′ ≡ leaving out (readSpecial (board s m) text) →
+      leftAs r m out′ ≡ leaving out (command (board s m) code text)
   unfolding command
-  unknown a g b h e f q =
-      by-command m out
-      (rw (ne-eqb code A a, ne-eqb code G g, ne-eqb code B b, ne-eqb code H h, ne-eqb code E e, ne-eqb code F f)
-      (does-acts out _ r m (acts-refused 21 s m r q)))
+  get-special e r out′ q = rw e q
 
--- ---- with a wrong one
+  pub set-special : (code ≡ F → ⊥) → isSpecial code true ≡ true → (c : Changed) (m′ : List ℕ) → changing c m′ ≡ writeSpecial (board s m) text →
+      leftAs (doneAs (c .number) (c .settings) 0) m′ out ≡ leaving out (command (board s m) code text)
+  unfolding command isSpecial
+  set-special n t c m′ q =
+      left-quiet out _ (c .number) (board (c .settings) m′)
+      (q ∙ rw (eqb-true code E (only (code is E) (ne-eqb code F n) t)))
+    where
+      only : (x : Bool) {y : Bool} → y ≡ false → (x || y) ≡ true → x ≡ true
+      only true e f = refl
+      only false e f = never (sym f ∙ e)
 
-pub sum-wrong : (s : Settings) (m : List ℕ) (code : ℕ) (text out : List ℕ) (right : Bool) → not right ≡ true → (r : Done) → r ≡ doneAs 20 s 0 →
-    Does out (doBlock (board s m) (block code text right)) r m out
-unfolding doBlock
-sum-wrong s m code text out right w r q = rw w (does-acts out _ r m (acts-refused 20 s m r q))
+pub ruleset special-blocks = (special-told, get-special, set-special, needs)
 
-pub ruleset choosing = (write-text, write-string, set-special, read-text, read-string, get-special, unknown, sum-wrong, needs)
+-- ---- any other block; m′ and out′ are what is left
 
--- ---- with its number noted; d is what was answered before
+module _ (p m : List ℕ) (code : ℕ) (text out : List ℕ) (right : Bool) where
+  -- by an effect on each board
+  as-answered : (e : Board → Effect) → ((b : Board) → e b ≡ doing (block code text right) b) → (r : Filed) (m′ out′ : List ℕ) →
+      Files p m out e r m′ out′ → Files p m out (doing (block code text right)) r m′ out′
+  as-answered e q r m′ out′ x = record { on = λ s i. x .on s i ∙ ap (leaving out) (q (board s m)) }
 
-pub does-recorded : (s : Settings) (m : List ℕ) (code : ℕ) (text out : List ℕ) (right : Bool) (d r : Done) (m′ out′ : List ℕ) →
-    Does out (doBlock (board s m) (block code text right)) d m′ out′ → r ≡ doneAs (d .number) (withFault (d .settings) (d .number)) (d .length) →
-    Does out (runBlock (board s m) (block code text right)) r m′ out′
-unfolding runBlock
-does-recorded s m code text out right d r m′ out′ x q =
-    rw q
-    (record {
-      number = x .number;
-      settings = ap₂ withFault (x .settings) (x .number);
-      stored = x .stored;
-      replied = x .replied;
-      long = x .long;
-    })
+  as-put : (e : Board → Effect) → ((b : Board) → e b ≡ doing (block code text right) b) → (n : ℕ) (m′ : List ℕ) →
+      Puts p m e n m′ → Files p m out (doing (block code text right)) (filedAs n 0) m′ out
+  as-put e q n m′ x = record { on = λ s i. left-quiet out _ n (board s m′) (x .on s i ∙ q (board s m)) }
 
-pub ruleset recording = (does-recorded, needs)
+  as-refused : (n : ℕ) → ((b : Board) → refuse n b ≡ doing (block code text right) b) →
+      Files p m out (doing (block code text right)) (filedAs n 0) m out
+  as-refused n q = record { on = λ s i. left-quiet out _ n (board s m) (q (board s m)) }
+
+  -- with a right sum
+  module _ (w : not right ≡ false) where
+    pub write-text : code ≡ A → (n : ℕ) (m′ : List ℕ) → Puts p m (writing TEXT text) n m′ →
+        Files p m out (doing (block code text right)) (filedAs n 0) m′ out
+    unfolding doing doBlock command writing
+    write-text e = as-put (writing TEXT text) (λ b. rw (w, e))
+
+    pub write-string : code ≡ G → (n : ℕ) (m′ : List ℕ) → Puts p m (writing STRING text) n m′ →
+        Files p m out (doing (block code text right)) (filedAs n 0) m′ out
+    unfolding doing doBlock command writing
+    write-string e = as-put (writing STRING text) (λ b. rw (w, e))
+
+    pub read-text : code ≡ B → (r : Filed) (out′ : List ℕ) → Files p m out (reading TEXT A text) r m out′ →
+        Files p m out (doing (block code text right)) r m out′
+    unfolding doing doBlock command reading
+    read-text e r out′ = as-answered (reading TEXT A text) (λ b. rw (w, e)) r m out′
+
+    pub read-string : code ≡ H → (r : Filed) (out′ : List ℕ) → Files p m out (reading STRING G text) r m out′ →
+        Files p m out (doing (block code text right)) r m out′
+    unfolding doing doBlock command reading
+    read-string e r out′ = as-answered (reading STRING G text) (λ b. rw (w, e)) r m out′
+
+    pub unknown : (code ≡ A → ⊥) → (code ≡ G → ⊥) → (code ≡ B → ⊥) → (code ≡ H → ⊥) → isSpecial code right ≡ false →
+        Files p m out (doing (block code text right)) (filedAs 21 0) m out
+    unfolding doing doBlock command isSpecial
+    unknown a g b h t =
+        let n = not-either (code is E) (code is F) (sym (rw (not-false right w)) ∙ t) in
+        as-refused 21 (λ x. rw (w, ne-eqb code A a, ne-eqb code G g, ne-eqb code B b, ne-eqb code H h, n .0, n .1))
+      where
+        not-either : (x y : Bool) → (x || y) ≡ false → (x ≡ false) × (y ≡ false)
+        not-either true y e = never e
+        not-either false y e = (refl, e)
+
+  -- with a wrong one
+  pub sum-wrong : not right ≡ true → Files p m out (doing (block code text right)) (filedAs 20 0) m out
+  unfolding doing doBlock
+  sum-wrong w = as-refused 20 (λ b. rw w)
+
+pub ruleset choosing = (write-text, write-string, read-text, read-string, unknown, sum-wrong, needs)

@@ -1,7 +1,6 @@
 -- A content told, case by case.
 use Prim.Native.Nat.{ℕ, _+_, _-_, _^_, _<_, _≤_}
 use mathlib.Core.Path.{_≡_, refl, sym, ap, _∙_}
-use mathlib.Core.Bool.{true}
 use mathlib.Core.List.{List}
 use native.Mathlib.Omega.{arith}
 use borrow.Author.Needs.{needs}
@@ -15,20 +14,18 @@ use Rattle.octets.specs.Buffer.{splice, overlay}
 use Rattle.octets.proofs.Places.{take-front, front-length}
 use Rattle.octets.proofs.Buffers.{length-splice}
 use Rattle.buffers.proofs.Splices.{splice-in, overlay-covers}
-use Rattle.board.specs.Files.{filesOf, find}
 use Rattle.board.specs.Index.{lookUp}
-use Rattle.board.specs.Soundness.{sound}
-use Rattle.board.proofs.Inside.{sound-held, sound-found, sound-within, found-inside}
-use Rattle.board.specs.declared.Settings.{Settings}
+use Rattle.board.specs.Board.{board}
 use Rattle.board.specs.declared.Found.{Found}
 use Rattle.board.specs.declared.Found.the-variants.{At, Nothing}
-use Rattle.effects.specs.Reply.{replyOf}
-use Rattle.effects.specs.Effects.{board}
-use Rattle.commands.specs.Commands.{findOn, getContent, readFile}
-use Rattle.effects.specs.InnerLeaving.{doneAs, Told, Replied, Tells}
-use Rattle.effects.specs.declared.Done.{Done}
-use Rattle.effects.proofs.ReplyLengths.{reply-length}
-use Rattle.effects.proofs.Outcomes.{tells-refused, tells-replied}
+use Rattle.effects.specs.Reply.{replyOf, replyRoom}
+use Rattle.commands.specs.Commands.{getContent, readFile}
+use Rattle.effects.specs.InnerLeaving.{Told, Replied}
+use Rattle.effects.proofs.ReplyLengths.{reply-length, room-least}
+use Rattle.effects.proofs.Outcomes.{left-quiet, left-replied}
+use Rattle.commands.specs.InnerDoing.{filedAs, OfBoard, getting, reading, Files}
+use Rattle.commands.specs.declared.Filed.{Filed}
+use Rattle.commands.proofs.Boards.{found-on, of-within, of-inside}
 
 -- ---- a content without its zeros; n is where its bytes 05H to FFH end
 
@@ -58,16 +55,16 @@ module _ (m : List ℕ) (start size : ℕ) where
   content-short : length content ≤ length m
   content-short = simp (length-take, length-drop) (omega arith)
 
-  module _ (out : List ℕ) (h : length m + 64 ≤ length out) where
+  module _ (out : List ℕ) (h : replyRoom m ≤ length out) where
     pub content-room : length (take (start + size - start) (drop start m)) + 33 ≤ length out
-    content-room = omega (arith, content-short)
+    content-room = omega (arith, content-short, room-least m)
 
     module _ (after : List ℕ) (n : ℕ) (t : Told out (front isPlain (take (start + size - start) (drop start m))) after n) where
       told-fits : 27 + length (front isPlain content) ≤ length out
-      told-fits = omega (arith, content-short, front-length isPlain content)
+      told-fits = omega (arith, content-short, front-length isPlain content, room-least m)
 
       pub reply-room : n + 33 ≤ length after
-      reply-room = rw (t .stored, length-splice out 27 (front isPlain content) told-fits) (omega (arith, t .long, content-short, front-length isPlain content))
+      reply-room = rw (t .stored, length-splice out 27 (front isPlain content) told-fits) (omega (arith, t .long, content-short, front-length isPlain content, room-least m))
 
       -- what the reply is put around
       told-there : take n (drop 27 after) ≡ front isPlain content
@@ -81,40 +78,38 @@ module _ (m : List ℕ) (start size : ℕ) where
             rw told-there at (r .long),
           )
 
-module _ (s : Settings) (m : List ℕ) (g : sound s m ≡ true) (label kind : ℕ) (f : Found) (a : f ≡ lookUp (s .places) m label kind) where
-  abbrev e : f ≡ find label kind (filesOf (s .files) m) 0
-  e = a ∙ sound-found s m g label kind
-
+module _ {p m : List ℕ} (h : OfBoard p m) (label kind : ℕ) (f : Found) (a : f ≡ lookUp p m label kind) where
   module _ (code : ℕ) (out : List ℕ) where
-    pub get-none : f ≡ Nothing → (r : Done) → r ≡ doneAs 23 s 0 → Tells (board s m) out (getContent code (board s m) label (findOn (board s m) label kind)) r out
-    unfolding getContent
-    get-none p r q = rw (← e, p) (tells-refused 23 s m r q out)
+    pub get-none : f ≡ Nothing → Files p m out (getting code label kind) (filedAs 23 0) m out
+    unfolding getting getContent
+    get-none e = record { on = λ s i. left-quiet out _ 23 (board s m) (rw (← found-on label kind f a s i, e)) }
 
-  module _ (start size : ℕ) (p : f ≡ At start size) where
+  module _ (start size : ℕ) (e : f ≡ At start size) where
     pub get-inside : start + size ≤ length m
-    get-inside = found-inside m (s .files) label kind start size f (sound-held s m g) e p
+    get-inside = of-inside h label kind f a start size e
 
     pub get-fits : length m < 2 ^ 64 → Fits w64 (start + size)
-    get-fits h = omega (arith, get-inside)
+    get-fits l = omega (arith, get-inside)
 
-    pub get-done : (code : ℕ) (out after last : List ℕ) (n k : ℕ) → length m + 64 ≤ length out → Told out (front isPlain (take (start + size - start) (drop start m))) after n →
-        Replied after code label (take n (drop 27 after)) last k → Tells (board s m) out (getContent code (board s m) label (findOn (board s m) label kind)) (doneAs 0 s k) last
-    unfolding getContent
-    get-done code out after last n k h t r =
+    pub get-done : (code : ℕ) (out after last : List ℕ) (n k : ℕ) → replyRoom m ≤ length out → Told out (front isPlain (take (start + size - start) (drop start m))) after n →
+        Replied after code label (take n (drop 27 after)) last k → Files p m out (getting code label kind) (filedAs 0 k) m last
+    unfolding getting getContent
+    get-done code out after last n k l t r =
         let d : start + size - start ≡ size = omega arith in
-        let w = rw d at (replied-over m start size out h after n t code label last k r) in
-        rw (← e, p) (tells-replied s s refl m out (replyOf code label (front isPlain (take size (drop start m)))) last k (w .0) (w .1))
+        let w = rw d at (replied-over m start size out l after n t code label last k r) in
+        record { on = λ s i. rw (← found-on label kind f a s i, e) (left-replied out (board s m) _ last k (w .0) (w .1)) }
 
 -- ---- the label alone
 
-module _ (s : Settings) (m : List ℕ) (kind code : ℕ) (text out : List ℕ) (r : Done) where
-  pub read-not : (length text ≡ 1 → ⊥) → r ≡ doneAs 22 s 0 → Tells (board s m) out (readFile kind code (board s m) text) r out
-  unfolding readFile
-  read-not h q = rw (ne-eqb (length text) 1 h) (tells-refused 22 s m r q out)
+module _ (p m : List ℕ) (kind code : ℕ) (text out : List ℕ) where
+  pub read-not : (length text ≡ 1 → ⊥) → Files p m out (reading kind code text) (filedAs 22 0) m out
+  unfolding reading readFile
+  read-not l = record { on = λ s i. left-quiet out _ 22 (board s m) (rw (ne-eqb (length text) 1 l)) }
 
-  pub read-one : (after : List ℕ) → length text ≡ 1 → Tells (board s m) out (getContent code (board s m) (text ! 0) (findOn (board s m) (text ! 0) kind)) r after →
-      Tells (board s m) out (readFile kind code (board s m) text) r after
-  unfolding readFile
-  read-one after h t = rw (eq-eqb (length text) 1 h) t
+  pub read-one : (r : Filed) (after : List ℕ) → length text ≡ 1 →
+      Files p m out (getting code (text ! 0) kind) r m after →
+      Files p m out (reading kind code text) r m after
+  unfolding reading readFile getting
+  read-one r after l t = record { on = λ s i. t .on s i ∙ rw (eq-eqb (length text) 1 l) }
 
-pub ruleset gets = (told-inside, told-room, told-put, content-room, reply-room, sound-within, get-none, get-inside, get-fits, get-done, read-not, read-one, needs)
+pub ruleset gets = (told-inside, told-room, told-put, content-room, reply-room, of-within, get-none, get-inside, get-fits, get-done, read-not, read-one, needs)

@@ -1,7 +1,6 @@
 -- A message put into a file, case by case.
 use Prim.Native.Nat.{ℕ, _+_, _-_, _<_, _≤_}
 use mathlib.Core.Path.{_≡_, refl, ap, _∙_}
-use mathlib.Core.Bool.{true}
 use mathlib.Core.List.{List, [], _∷_}
 use native.Mathlib.Omega.{arith}
 use borrow.Author.Needs.{needs}
@@ -11,19 +10,12 @@ use lib.Seq.{take-all}
 use Rattle.octets.specs.Choice.{_!_}
 use Rattle.octets.specs.Buffer.{zeros, splice}
 use Rattle.buffers.proofs.Splices.{splice-append}
-use Rattle.board.specs.Files.{filesOf, find}
 use Rattle.board.specs.Index.{lookUp}
-use Rattle.board.specs.Soundness.{sound}
-use Rattle.board.proofs.Inside.{sound-held, sound-found, sound-within, found-inside}
-use Rattle.board.specs.declared.Settings.{Settings}
 use Rattle.board.specs.declared.Found.{Found}
 use Rattle.board.specs.declared.Found.the-variants.{At, Nothing}
-use Rattle.effects.specs.Effects.{board}
-use Rattle.commands.specs.Commands.{findOn, holding, putMessage, writeFile}
-use Rattle.effects.specs.InnerLeaving.{doneAs, Acts}
-use Rattle.commands.specs.InnerDoing.{Room}
-use Rattle.effects.specs.declared.Done.{Done}
-use Rattle.effects.proofs.Outcomes.{acts-refused, acts-done}
+use Rattle.commands.specs.Commands.{holding, putMessage, writeFile}
+use Rattle.commands.specs.InnerDoing.{Room, OfBoard, putting, writing, Puts}
+use Rattle.commands.proofs.Boards.{found-on, of-within, of-inside}
 
 -- the message, then zeros
 pub hold-put : (m a b msg : List ℕ) (start size : ℕ) → Room m start size msg → a ≡ splice m start msg → b ≡ splice a (start + length msg) (zeros (size - length msg)) →
@@ -32,39 +24,38 @@ unfolding holding
 hold-put m a b msg start size h p q =
     q ∙ ap (λ l. splice l (start + length msg) (zeros (size - length msg))) p ∙ splice-append m start msg (omega (arith, h .fits, h .inside)) (zeros (size - length msg))
 
--- f is what the index answers, and so what is found
-module _ (s : Settings) (m : List ℕ) (g : sound s m ≡ true) (label kind : ℕ) (f : Found) (a : f ≡ lookUp (s .places) m label kind) (msg : List ℕ) where
-  abbrev e : f ≡ find label kind (filesOf (s .files) m) 0
-  e = a ∙ sound-found s m g label kind
+-- f is what the index answers
+module _ {p m : List ℕ} (h : OfBoard p m) (label kind : ℕ) (f : Found) (a : f ≡ lookUp p m label kind) (msg : List ℕ) where
+  pub put-none : f ≡ Nothing → Puts p m (putting label kind msg) 23 m
+  unfolding putting putMessage
+  put-none e = record { on = λ s i. rw (← found-on label kind f a s i, e) }
 
-  pub put-none : f ≡ Nothing → (r : Done) → r ≡ doneAs 23 s 0 → Acts (putMessage (board s m) (findOn (board s m) label kind) msg) r m
-  unfolding putMessage
-  put-none p r q = rw (← e, p) (acts-refused 23 s m r q)
+  module _ (start size : ℕ) (e : f ≡ At start size) where
+    pub put-long : size < length msg → Puts p m (putting label kind msg) 24 m
+    unfolding putting putMessage
+    put-long l = record { on = λ s i. rw (← found-on label kind f a s i, e, lt-ltb size (length msg) l) }
 
-  module _ (start size : ℕ) (p : f ≡ At start size) where
-    pub put-long : size < length msg → (r : Done) → r ≡ doneAs 24 s 0 → Acts (putMessage (board s m) (findOn (board s m) label kind) msg) r m
-    unfolding putMessage
-    put-long h r q = rw (← e, p, lt-ltb size (length msg) h) (acts-refused 24 s m r q)
-
-    module _ (h : length msg ≤ size) where
+    module _ (l : length msg ≤ size) where
       pub put-room : Room m start size msg
-      put-room = record { fits = h; inside = found-inside m (s .files) label kind start size f (sound-held s m g) e p }
+      put-room = record { fits = l; inside = of-inside h label kind f a start size e }
 
-      pub put-done : (m′ : List ℕ) → m′ ≡ holding m start size msg → (r : Done) → r ≡ doneAs 0 s 0 → Acts (putMessage (board s m) (findOn (board s m) label kind) msg) r m′
-      unfolding putMessage
-      put-done m′ q r i = rw (← e, p, le-ltb size (length msg) h, q) (acts-done s (holding m start size msg) r i)
+      pub put-done : (m′ : List ℕ) → m′ ≡ holding m start size msg → Puts p m (putting label kind msg) 0 m′
+      unfolding putting putMessage
+      put-done m′ q = record { on = λ s i. rw (← found-on label kind f a s i, e, le-ltb size (length msg) l, q) }
 
 -- the label, and the message behind it
-module _ (s : Settings) (m : List ℕ) (kind : ℕ) (r : Done) where
-  pub write-none : (text : List ℕ) → length text ≡ 0 → r ≡ doneAs 22 s 0 → Acts (writeFile kind (board s m) text) r m
-  unfolding writeFile
-  write-none [] h q = acts-refused 22 s m r q
-  write-none (x ∷ text) h q = absurd (omega arith)
+module _ (p m : List ℕ) (kind : ℕ) where
+  pub write-none : (text : List ℕ) → length text ≡ 0 → Puts p m (writing kind text) 22 m
+  unfolding writing writeFile
+  write-none [] l = record { on = λ s i. refl }
+  write-none (x ∷ text) l = absurd (omega arith)
 
-  pub write-some : (text m′ : List ℕ) → (length text ≡ 0 → ⊥) → Acts (putMessage (board s m) (findOn (board s m) (text ! 0) kind) (take (length text - 1) (drop 1 text))) r m′ →
-      Acts (writeFile kind (board s m) text) r m′
-  unfolding writeFile
-  write-some [] m′ h a = absurd (h refl)
-  write-some (x ∷ text) m′ h a = rw (take-all (length (x ∷ text) - 1) text (omega arith)) at a
+  pub write-some : (text : List ℕ) → (length text ≡ 0 → ⊥) → (n : ℕ) (m′ : List ℕ) →
+      Puts p m (putting (text ! 0) kind (take (length text - 1) (drop 1 text))) n m′ →
+      Puts p m (writing kind text) n m′
+  unfolding writing writeFile putting
+  write-some [] l n m′ x = absurd (l refl)
+  write-some (y ∷ text) l n m′ x =
+      record { on = λ s i. x .on s i ∙ rw (take-all (length (y ∷ text) - 1) text (omega arith)) }
 
-pub ruleset puts = (hold-put, sound-within, put-none, put-long, put-room, put-done, write-none, write-some, needs)
+pub ruleset puts = (hold-put, of-within, put-none, put-long, put-room, put-done, write-none, write-some, needs)

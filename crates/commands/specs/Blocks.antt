@@ -6,7 +6,8 @@ use Rattle.octets.specs.Choice.{if_then_else_, _is_}
 use Rattle.octets.specs.Bytes.{A, B, E, F, G, H}
 use Rattle.body.specs.Body.{Block}
 use Rattle.board.specs.Files.{TEXT, STRING}
-use Rattle.effects.specs.Effects.{Board, Effect, refuse}
+use Rattle.board.specs.Board.{Board}
+use Rattle.effects.specs.Effects.{Effect, refuse}
 use Rattle.effects.specs.Recording.{recorded}
 use Rattle.commands.specs.Commands.{writeFile, readFile}
 use Rattle.special.specs.Special.{writeSpecial, readSpecial}

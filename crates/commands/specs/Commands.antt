@@ -5,15 +5,16 @@ use lib.ListN.{length, take, drop}
 use Rattle.octets.specs.Choice.{if_then_else_, _isn't_, _<?_, _!_, front}
 use Rattle.octets.specs.Buffer.{zeros, splice}
 use Rattle.octets.specs.Bytes.{isPlain}
-use Rattle.board.specs.Files.{filesOf, find}
+use Rattle.board.specs.Files.{find}
+use Rattle.board.specs.Board.{Board, withMemory, filesOn}
 use Rattle.effects.specs.Reply.{replyOf}
-use Rattle.effects.specs.Effects.{Board, board, Effect, done, replied, refuse}
+use Rattle.effects.specs.Effects.{Effect, done, replied, refuse}
 use Rattle.board.specs.declared.Found.{Found}
 use Rattle.board.specs.declared.Found.the-variants.{At, Nothing}
 
 -- the content of a file of the board
 abbrev pub findOn : Board → ℕ → ℕ → Found
-findOn b label kind = find label kind (filesOf (b .settings .files) (b .memory)) 0
+findOn b label kind = find label kind (filesOn b) 0
 
 -- "holds the message, zeros after it"
 unfoldable pub holding : List ℕ → ℕ → ℕ → List ℕ → List ℕ
@@ -24,7 +25,7 @@ unfoldable pub putMessage : Board → Found → List ℕ → Effect
 putMessage b Nothing message = refuse 23 b
 putMessage b (At start size) message =
     if size <? length message then refuse 24 b
-    else done (board (b .settings) (holding (b .memory) start size message))
+    else done (withMemory b (holding (b .memory) start size message))
 
 -- "A, G: label and message, which may be empty." 22 "data missing"
 unfoldable pub writeFile : ℕ → Board → List ℕ → Effect

@@ -1,6 +1,6 @@
 -- What a block leaves in the register, number by number; and that the fixed bits and every bit that is set stay.
 use Prim.Native.Nat.{ℕ}
-use mathlib.Core.Path.{_≡_, ap, _∙_}
+use mathlib.Core.Path.{_≡_, ap}
 use mathlib.Core.Bool.{true, _||_}
 use mathlib.Core.Logic.{_⊎_, ⊎-elim, inl, inr}
 use native.Mathlib.Omega.{arith}
@@ -12,9 +12,7 @@ use Rattle.register.specs.Register.{ILLEGAL, CHECKSUM, bit, isRegister, noted}
 use Rattle.register.proofs.Noting.{set-stays, fixed-kept}
 use Rattle.board.specs.Settings.{withErrors}
 use Rattle.board.specs.declared.Settings.{Settings}
-use Rattle.effects.specs.InnerLeaving.{doneAs}
 use Rattle.effects.specs.Recording.{faultNoted, withFault}
-use Rattle.effects.specs.declared.Done.{Done}
 
 -- ---- as the code tells them
 
@@ -32,9 +30,9 @@ module _ (r n : ℕ) where
   unfolding faultNoted
   none-noted a b = rw (ne-eqb n 20 a, ne-eqb n 21 (λ e. b (inl e)), ne-eqb n 23 (λ e. b (inr e)))
 
-pub fault-recorded : (d : Done) (x : ℕ) (s : Settings) → x ≡ faultNoted (d .settings .errors) (d .number) → s ≡ withErrors (d .settings) x →
-    doneAs (d .number) s (d .length) ≡ doneAs (d .number) (withFault (d .settings) (d .number)) (d .length)
-fault-recorded d x s e g = ap (λ (t : Settings). doneAs (d .number) t (d .length)) (g ∙ ap (withErrors (d .settings)) e)
+-- the settings with that register
+pub fault-recorded : (s : Settings) (n x : ℕ) → x ≡ faultNoted (s .errors) n → withErrors s x ≡ withFault s n
+fault-recorded s n x e = ap (withErrors s) e
 
 pub ruleset recording = (sum-noted, label-noted, none-noted, fault-recorded, needs)
 

@@ -1,5 +1,5 @@
 -- For contracts of inner functions only: what they need, answer and leave.
-use Prim.Native.Nat.{ℕ, _+_, _≤_}
+use Prim.Native.Nat.{ℕ, _≤_}
 use mathlib.Core.Path.{_≡_}
 use mathlib.Core.Bool.{true}
 use mathlib.Core.List.{List, [], _∷_, _++_}
@@ -7,11 +7,12 @@ use lib.ListN.{length}
 use Rattle.octets.specs.Hex.{inHex4}
 use Rattle.octets.specs.Buffer.{zeros, splice, overlay}
 use Rattle.octets.specs.Bytes.{SOH, STX, ETX, EOT, ZERO}
-use Rattle.board.specs.Settings.{withErrors}
+use Rattle.board.specs.Board.{Board, board}
 use Rattle.board.specs.Soundness.{sound}
 use Rattle.board.specs.declared.Settings.{Settings}
-use Rattle.effects.specs.Reply.{replyOf}
-use Rattle.effects.specs.Effects.{Board, board, Effect}
+use Rattle.effects.specs.Reply.{replyOf, replyRoom}
+use Rattle.effects.specs.Effects.{Effect, effect}
+use Rattle.effects.specs.declared.Changed.{Changed}
 use Rattle.effects.specs.declared.Done.{Done}
 
 -- what a block answers
@@ -35,23 +36,29 @@ pub record Told (out d after : List ℕ) (n : ℕ) : Type 0 where
   pub stored : after ≡ splice out 27 d
   pub long : n ≡ length d
 
--- a command that gives no reply: its number, the settings and memory after it
-pub record Acts (e : Effect) (r : Done) (memory : List ℕ) : Type 0 where
-  pub number : r .number ≡ e .number
-  pub settings : r .settings ≡ e .after .settings
-  pub stored : memory ≡ e .after .memory
-  pub quiet : e .reply ≡ []
-  pub length : r .length ≡ 0
+-- what a command that gives no reply answered and left, as an effect
+abbrev pub changing : Changed → List ℕ → Effect
+changing r m = effect (r .number) (board (r .settings) m) []
 
--- a command that replies: its number, the settings after it, and the reply; the board is as it was, but for the register
-pub record Tells (b : Board) (out : List ℕ) (e : Effect) (r : Done) (after : List ℕ) : Type 0 where
-  pub number : r .number ≡ e .number
-  pub same : e .after ≡ board (withErrors (b .settings) (e .after .settings .errors)) (b .memory)
-  pub settings : r .settings ≡ e .after .settings
-  pub stored : after ≡ overlay out (e .reply)
-  pub long : r .length ≡ length (e .reply)
+-- what a command answered and left: its number, the board, the reply buffer and the length of the reply in it
+pub record Left : Type 0 where
+  pub number : ℕ
+  pub after : Board
+  pub buffer : List ℕ
+  pub length : ℕ
+
+abbrev pub left : ℕ → Board → List ℕ → ℕ → Left
+left n b o k = record { number = n; after = b; buffer = o; length = k }
+
+-- what an effect leaves in a reply buffer
+unfoldable pub leaving : List ℕ → Effect → Left
+leaving o e = left (e .number) (e .after) (overlay o (e .reply)) (length (e .reply))
+
+-- a command that hands settings back, beside memory and reply buffer
+abbrev pub leftAs : Done → List ℕ → List ℕ → Left
+leftAs r m o = left (r .number) (board (r .settings) m) o (r .length)
 
 -- a sound board, and a reply buffer as long as document 01 asks
-pub record Ready (s : Settings) (m out : List ℕ) : Type 0 where
-  pub sound : sound s m ≡ true
-  pub room : length m + 64 ≤ length out
+pub record Ready (b : Board) (out : List ℕ) : Type 0 where
+  pub sound : sound b ≡ true
+  pub room : replyRoom (b .memory) ≤ length out

@@ -5,7 +5,8 @@ use Rattle.octets.specs.Choice.{if_then_else_, _is_}
 use Rattle.register.specs.Register.{ILLEGAL, CHECKSUM, noted}
 use Rattle.board.specs.Settings.{withErrors}
 use Rattle.board.specs.declared.Settings.{Settings}
-use Rattle.effects.specs.Effects.{board, Effect}
+use Rattle.board.specs.Board.{withSettings}
+use Rattle.effects.specs.Effects.{Effect, effect}
 
 -- the register with what is noted of a block of that number: "A block refused with 20 sets the checksum bit; 21 or 23 sets the illegal command or
 -- label bit; a bit stays until cleared."
@@ -21,4 +22,4 @@ withFault s n = withErrors s (faultNoted (s .errors) n)
 
 -- "A refused block now changes nothing but this register": the effect of a command, with its number noted
 abbrev pub recorded : Effect → Effect
-recorded e = record { number = e .number; after = board (withFault (e .after .settings) (e .number)) (e .after .memory); reply = e .reply }
+recorded e = effect (e .number) (withSettings (e .after) (withFault (e .after .settings) (e .number))) (e .reply)

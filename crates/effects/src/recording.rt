@@ -1,17 +1,17 @@
 // What a block leaves in the serial error status register: a refused block changes nothing else.
-use crate::Done;
 use crate::numbers::NO_FILE;
 use crate::numbers::UNKNOWN;
 use crate::numbers::WRONG_CHECKSUM;
+use board::Settings;
 use register::CHECKSUM;
 use register::ILLEGAL;
 ghost use mathlib.Core.Path.{_≡_};
-ghost use Rattle.effects.specs.InnerLeaving.{doneAs};
+ghost use lib.ListN.{length};
 ghost use Rattle.effects.specs.Recording.{faultNoted, withFault};
 
 // 20 "sets the checksum bit; 21 or 23 sets the illegal command or label bit", and no other number sets any: "Errors are OR'd into the
 // Serial Error Status Register."
-fn fault_noted(register: u8, number: u8) -> u8
+pub fn fault_noted(register: u8, number: u8) -> u8
     ensures { λ r. ⌜ r ≡ faultNoted register number ⌝ }
 {
     match number {
@@ -21,16 +21,12 @@ fn fault_noted(register: u8, number: u8) -> u8
     }
 }
 
-// What a block answers, with its number noted.
-pub fn recorded(done: Done) -> Done
-    ensures { λ r. ⌜ r ≡ doneAs (done .number) (withFault (done .settings) (done .number)) (done .length) ⌝ }
+// The settings with that register; the index has its entries still.
+pub fn recorded(s: Settings, number: u8) -> Settings
+    ensures { λ r. ⌜ r ≡ withFault s number ⌝ }
+    ensures { λ r. ⌜ length (r .places) ≡ 95 ⌝ }
 {
-    let s = done.settings;
-    let number = done.number;
-    let length = done.length;
-    Done {
-        number,
-        settings: s.with_errors(fault_noted(s.errors, number)),
-        length,
-    }
+    let mut next = s;
+    next.errors = fault_noted(s.errors, number);
+    next
 }

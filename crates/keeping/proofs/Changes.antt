@@ -17,16 +17,18 @@ use Rattle.temperature.specs.Offset.{isSignedDigit}
 use Rattle.temperature.proofs.Spelling.{set-offset}
 use Rattle.register.specs.Register.{CLEARED, isRegister}
 use Rattle.board.specs.Settings.{FORMAT-S, FORMAT-M, OFF, ON, inDate, inRange, setTo}
+use Rattle.board.specs.Board.{board}
 use Rattle.board.specs.Soundness.{keepsTrue}
 use Rattle.board.specs.declared.Settings.{Settings}
 use Rattle.board.proofs.Ranges.{time-ranged, date-ranged, format-ranged, speaker-ranged, address-ranged, offset-ranged, errors-ranged}
-use Rattle.special.specs.Special.{TIME, SPEAKER, FORMAT, DATE, ADDRESS, OFFSET, CLEAR, Change, to, malformed, setTime, setSpeaker, setFormat, setDate, setAddress, setOffset, clearErrors, setBy}
+use Rattle.effects.specs.declared.Changed.{Changed}
+use Rattle.special.specs.Special.{TIME, SPEAKER, FORMAT, DATE, ADDRESS, OFFSET, CLEAR, to, malformed, setTime, setSpeaker, setFormat, setDate, setAddress, setOffset, clearErrors, setBy}
 
 -- what a special function keeps of the settings s; the tests say whether it may set the address, and whether it clears the register
-pub record Kept (moves clear : Bool) (s : Settings) (c : Change) : Type 0 where
+pub record Kept (moves clear : Bool) (s : Settings) (c : Changed) : Type 0 where
   pub own : c .settings .own ≡ s .own
   pub files : c .settings .files ≡ s .files
-  pub kept : (m : List ℕ) → keepsTrue (c .settings) m ≡ keepsTrue s m
+  pub kept : (m : List ℕ) → keepsTrue (board (c .settings) m) ≡ keepsTrue (board s m)
   pub address : moves ≡ false → c .settings .address ≡ s .address
   pub ranged : inRange s ≡ true → inRange (c .settings) ≡ true
   pub refused : (c .number ≡ 0 → ⊥) → c .settings ≡ s
@@ -147,7 +149,7 @@ set-keeps x s d label t =
     y : Bool
     y = label is CLEAR
 
-    K : Change → Type 0
+    K : Changed → Type 0
     K = Kept x y s
 
     -- the label is k

@@ -19,20 +19,22 @@ use Rattle.register.specs.Register.{CLEARED, isRegister}
 use Rattle.board.specs.Settings.{inRange, withErrors, cleared, withFiles}
 use Rattle.board.specs.Files.{TEXT, STRING, FILES, File, filesOf, unused, distinct}
 use Rattle.board.specs.Index.{indexOf}
-use Rattle.board.specs.Soundness.{soundMemory, keepsTrue, sound}
+use Rattle.board.specs.Board.{Board, board, withSettings, withMemory, filesOn}
+use Rattle.board.specs.Soundness.{soundMemory, keepsTrue}
 use Rattle.board.proofs.Ranges.{range, errors-ranged, files-ranged}
 use Rattle.board.proofs.SoundParts.{parts, sound-parts, kept-true, sound-whole}
 use Rattle.board.proofs.Inside.{sound-held, sound-unused, sound-index}
-use Rattle.effects.specs.Reply.{replyOf}
-use Rattle.effects.specs.Effects.{Board, board, Effect, done, replied, refuse}
+use Rattle.effects.specs.Reply.{replyOf, replyRoom}
+use Rattle.effects.specs.Effects.{Effect, done, replied, refuse}
+use Rattle.effects.specs.declared.Changed.{Changed}
 use Rattle.effects.specs.Recording.{faultNoted, withFault, recorded}
 use Rattle.commands.specs.Commands.{findOn, holding}
 use Rattle.commands.specs.Commands.{putMessage, writeFile, getContent, readFile}
 use Rattle.records.specs.Records.{isRecords, recordsIn, labelsIn, needed, refusal, laid}
 use Rattle.special.specs.Configuration.{configure}
-use Rattle.special.specs.Special.{CONFIGURATION, CLEAR, ERRORS, Change, setsAddress, setBy, change, writeSpecial, isTold, tell, afterTold, readSpecial}
+use Rattle.special.specs.Special.{CONFIGURATION, CLEAR, ERRORS, setsAddress, setBy, change, writeSpecial, isTold, tell, afterTold, readSpecial}
 use Rattle.commands.specs.Blocks.{command, doBlock, runBlock}
-use Rattle.keeping.specs.Keeping.{fileIn, configures, writes, clears, Keeps}
+use Rattle.keeping.specs.Keeping.{Sound, fileIn, configures, writes, clears, Keeps}
 use Rattle.keeping.proofs.Messages.{content, put-others, holding-files, holding-length, holding-unused, holding-index, holding-sound}
 use Rattle.records.proofs.RecordLaws.{laid-length, laid-sound, laid-index}
 use Rattle.records.proofs.Refusing.{taken}
@@ -42,20 +44,24 @@ use Rattle.effects.proofs.ReplyLengths.{content-fits}
 use Rattle.effects.proofs.RecordingLaws.{fault-fixed}
 
 -- other settings that are in range and keep the same of memory
-other-settings : (s t : Settings) (m : List ℕ) → (inRange s ≡ true → inRange t ≡ true) → t .files ≡ s .files → keepsTrue t m ≡ keepsTrue s m →
-    sound s m ≡ true → sound t m ≡ true
-other-settings s t m r f k e =
-    let q = sound-parts s m e in
-    sound-whole t m (record { ranged = r (q .ranged); filed = ap (λ (n : ℕ). soundMemory n m) f ∙ q .filed; kept = k ∙ q .kept })
+other-settings : (b : Board) (t : Settings) → (inRange (b .settings) ≡ true → inRange t ≡ true) → t .files ≡ b .settings .files →
+    keepsTrue (withSettings b t) ≡ keepsTrue b → Sound b → Sound (withSettings b t)
+other-settings b t r f k e =
+    let q = sound-parts b e in
+    sound-whole (withSettings b t)
+    (record { ranged = r (q .ranged); filed = ap (λ (n : ℕ). soundMemory n (b .memory)) f ∙ q .filed; kept = k ∙ q .kept })
 
 -- another register with its fixed bits
-pub errors-sound : (s : Settings) (m : List ℕ) (x : ℕ) → (isRegister (s .errors) ≡ true → isRegister x ≡ true) → sound s m ≡ true → sound (withErrors s x) m ≡ true
+pub errors-sound : (b : Board) (x : ℕ) → (isRegister (b .settings .errors) ≡ true → isRegister x ≡ true) → Sound b →
+    Sound (withSettings b (withErrors (b .settings) x))
 unfolding keepsTrue
-errors-sound s m x h = other-settings s (withErrors s x) m (λ r. errors-ranged s r x (h (range s r .errors))) refl refl
+errors-sound b x h =
+    let s = b .settings in
+    other-settings b (withErrors s x) (λ r. errors-ranged s r x (h (range s r .errors))) refl refl
 
 -- a number that is noted
-fault-sound : (s : Settings) (m : List ℕ) (n : ℕ) → sound s m ≡ true → sound (withFault s n) m ≡ true
-fault-sound s m n = errors-sound s m (faultNoted (s .errors) n) (fault-fixed (s .errors) n)
+fault-sound : (b : Board) (n : ℕ) → Sound b → Sound (withSettings b (withFault (b .settings) n))
+fault-sound b n = errors-sound b (faultNoted (b .settings .errors) n) (fault-fixed (b .settings .errors) n)
 
 -- what a command keeps once its number is noted
 unfoldable Noted : Board → ℕ → List ℕ → Effect → Type 0
@@ -74,7 +80,7 @@ module _ (b : Board) (c : ℕ) where
       record {
         own = refl;
         long = refl;
-        sound = λ p s. fault-sound (b .settings) (b .memory) n s;
+        sound = λ p s. fault-sound b n s;
         address = λ n. refl;
         files = λ n. refl;
         memory = λ n. refl;
@@ -90,18 +96,18 @@ module _ (b : Board) (c : ℕ) where
   malformed d = refuses d 22 (λ e. omega arith)
 
   -- a read that is answered
-  replies : (d r : List ℕ) → isRead c ≡ true → length r ≤ length (b .memory) + 64 →
-      Noted b c d (replied (board (if clears c d then cleared (b .settings) else b .settings) (b .memory)) r)
+  replies : (d r : List ℕ) → isRead c ≡ true → length r ≤ replyRoom (b .memory) →
+      Noted b c d (replied (withSettings b (if clears c d then cleared (b .settings) else b .settings)) r)
   unfolding isRegister
   replies d r t f =
-      as-done d (board (if clears c d then cleared (b .settings) else b .settings) (b .memory)) r
-      (by-test (clears c d) (λ e. rw e (whole CLEARED (rw e) (rw e) (errors-sound (b .settings) (b .memory) CLEARED (λ g. refl))))
+      as-done d (withSettings b (if clears c d then cleared (b .settings) else b .settings)) r
+      (by-test (clears c d) (λ e. rw e (whole CLEARED (rw e) (rw e) (errors-sound b CLEARED (λ g. refl))))
       (λ e. rw e (whole (b .settings .errors) (rw e) (rw e) (λ g. g))))
     where
       whole : (x : ℕ) → x ≡ (if clears c d then CLEARED else b .settings .errors) →
           withErrors (b .settings) x ≡ (if clears c d then cleared (b .settings) else b .settings) →
-          (sound (b .settings) (b .memory) ≡ true → sound (withErrors (b .settings) x) (b .memory) ≡ true) →
-          Keeps b c d (replied (board (withErrors (b .settings) x) (b .memory)) r)
+          (Sound b → Sound (withSettings b (withErrors (b .settings) x))) →
+          Keeps b c d (replied (withSettings b (withErrors (b .settings) x)) r)
       whole x e g h =
           record {
             own = refl;
@@ -113,7 +119,7 @@ module _ (b : Board) (c : ℕ) where
             others = λ n p s k o. refl;
             refused = λ n. absurd (n refl);
             errors = λ n. e;
-            read = λ t n. ap (λ (s : Settings). board s (b .memory)) g;
+            read = λ t n. ap (withSettings b) g;
             quiet = λ n. never (sym t ∙ n);
             fits = f;
           }
@@ -131,25 +137,25 @@ module _ (b : Board) (c : ℕ) where
       m = b .memory
 
       fit : (start size : ℕ) → findOn b label kind ≡ At start size → (size <? length msg) ≡ false →
-          Keeps b c (label ∷ msg) (done (board (b .settings) (holding m start size msg)))
+          Keeps b c (label ∷ msg) (done (withMemory b (holding m start size msg)))
       fit start size e q =
           let small : length msg ≤ size = ltb-false size (length msg) q in
           record {
             own = refl;
             long = holding-length label kind n m start size msg e small;
             sound = λ p s.
-                let t = sound-parts (b .settings) m s in
+                let t = sound-parts b s in
                 let q = all-tail isPlain label msg p in
-                let h = sound-held (b .settings) m s in
+                let h = sound-held b s in
                 let u = holding-unused n m h label kind start size e msg small q in
                 let i = holding-index n m h label kind start size e msg small q (b .settings .places) in
-                sound-whole (b .settings) (holding m start size msg)
+                sound-whole (withMemory b (holding m start size msg))
                 (record {
                   ranged = t .ranged;
                   filed = holding-sound n m (t .filed) label kind start size e msg small q;
                   kept =
-                      kept-true (b .settings) (holding m start size msg)
-                      (record { unused = sound-unused (b .settings) m s ∙ sym u; index = i ∙ sound-index (b .settings) m s });
+                      kept-true (withMemory b (holding m start size msg))
+                      (record { unused = sound-unused b s ∙ sym u; index = i ∙ sound-index b s });
                 });
             address = λ n. refl;
             files = λ n. refl;
@@ -157,7 +163,7 @@ module _ (b : Board) (c : ℕ) where
             others = λ x p s k o.
                 ap (λ (fs : List File). fileIn fs k)
                 (holding-files n m s label kind start size e msg small (all-tail isPlain label msg p))
-                ∙ put-others (filesOf n m) label kind (content size msg) k o;
+                ∙ put-others (filesOn b) label kind (content size msg) k o;
             refused = λ n. absurd (n refl);
             errors = λ n. rw z;
             read = λ r. never (sym r ∙ t);
@@ -169,7 +175,7 @@ module _ (b : Board) (c : ℕ) where
       go Nothing e = refuses (label ∷ msg) 23 (λ e. omega arith)
       go (At start size) e =
           choice (Noted b c (label ∷ msg)) (size <? length msg) (λ q. refuses (label ∷ msg) 24 (λ e. omega arith))
-          (λ q. as-done (label ∷ msg) (board (b .settings) (holding m start size msg)) [] (fit start size e q))
+          (λ q. as-done (label ∷ msg) (withMemory b (holding m start size msg)) [] (fit start size e q))
 
   write-effects : (kind : ℕ) (d : List ℕ) → writes c d ≡ true → isRead c ≡ false → clears c d ≡ false → Noted b c d (writeFile kind b d)
   unfolding writeFile
@@ -190,20 +196,20 @@ module _ (b : Board) (c : ℕ) where
       choice (Noted b c d) (length d isn't 1) (λ e. malformed d) (λ e. gets code d (d ! 0) (findOn b (d ! 0) kind) t z)
 
   -- ---- E
-  changes : (d : List ℕ) (x : Change) → isRead c ≡ false → Kept (setsAddress c d) (clears c d) (b .settings) x → Noted b c d (change b x)
+  changes : (d : List ℕ) (x : Changed) → isRead c ≡ false → Kept (setsAddress c d) (clears c d) (b .settings) x → Noted b c d (change b x)
   unfolding Noted faultNoted
   changes d x t k =
       record {
         own = k .own;
         long = refl;
         sound = λ p s.
-            fault-sound (x .settings) (b .memory) (x .number)
-            (other-settings (b .settings) (x .settings) (b .memory) (k .ranged) (k .files) (k .kept (b .memory)) s);
+            fault-sound (withSettings b (x .settings)) (x .number)
+            (other-settings b (x .settings) (k .ranged) (k .files) (k .kept (b .memory)) s);
         address = k .address;
         files = λ n. k .files;
         memory = λ n. refl;
         others = λ x p s i o. ap (λ (n : ℕ). fileIn (filesOf n (b .memory)) i) (k .files);
-        refused = λ n. (ap (λ (t : Settings). board (withFault t (x .number)) (b .memory)) (k .refused n), refl);
+        refused = λ n. (ap (λ (t : Settings). withSettings b (withFault t (x .number))) (k .refused n), refl);
         errors = λ n. rw n (k .errors n);
         read = λ r. never (sym r ∙ t);
         quiet = λ n. refl;
@@ -238,13 +244,13 @@ module _ (b : Board) (c : ℕ) where
             own = refl;
             long = laid-length d e (length m) g;
             sound = λ p s.
-                let q = sound-parts (b .settings) m s in
+                let q = sound-parts b s in
                 let l = parts (b .settings .files) m (q .filed) .long in
-                sound-whole next (laid n (length m) d)
+                sound-whole (board next (laid n (length m) d))
                 (record {
                   ranged = files-ranged (b .settings) (q .ranged) n (unused n (laid n (length m) d)) (indexOf n (laid n (length m) d));
                   filed = laid-sound d e (length m) g l;
-                  kept = kept-true next (laid n (length m) d) (record { unused = refl; index = laid-index d e (length m) g l f });
+                  kept = kept-true (board next (laid n (length m) d)) (record { unused = refl; index = laid-index d e (length m) g l f });
                 });
             address = λ n. refl;
             files = λ n. never (sym w ∙ n);

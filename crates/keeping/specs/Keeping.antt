@@ -1,6 +1,6 @@
 -- What every command keeps: a sound board sound, every byte of a file that it does not name, and where it is refused the board, but for
 -- the serial error status register.
-use Prim.Native.Nat.{ℕ, _+_, _≤_}
+use Prim.Native.Nat.{ℕ, _≤_}
 use mathlib.Core.Path.{_≡_}
 use mathlib.Core.List.{List, []}
 use mathlib.Core.Bool.{Bool, true, false, _&&_, _||_}
@@ -10,15 +10,17 @@ use Rattle.octets.specs.Bytes.{A, E, F, G, isPlain}
 use Rattle.body.specs.Body.{isRead}
 use Rattle.register.specs.Register.{CLEARED}
 use Rattle.board.specs.Settings.{cleared}
-use Rattle.board.specs.Files.{File, filesOf}
+use Rattle.board.specs.Files.{File}
+use Rattle.board.specs.Board.{Board, withSettings, filesOn}
 use Rattle.board.specs.Soundness.{holdsFiles, sound}
-use Rattle.effects.specs.Effects.{Board, board, Effect}
+use Rattle.effects.specs.Reply.{replyRoom}
+use Rattle.effects.specs.Effects.{Effect}
 use Rattle.effects.specs.Recording.{withFault}
 use Rattle.special.specs.Special.{CONFIGURATION, CLEAR, ERRORS, setsAddress}
 
 -- a sound board
 abbrev pub Sound : Board → Type 0
-Sound b = sound (b .settings) (b .memory) ≡ true
+Sound b = sound b ≡ true
 
 -- a board whose memory holds its files as it has to
 abbrev pub Holds : Board → Type 0
@@ -30,7 +32,7 @@ fileIn fs k = getD fs k (record { head = []; body = [] })
 
 -- the file of a board at place k
 abbrev pub fileOf : Board → ℕ → File
-fileOf b k = fileIn (filesOf (b .settings .files) (b .memory)) k
+fileOf b k = fileIn (filesOn b) k
 
 -- a command with these data replaces all files: E "$"
 abbrev pub configures : ℕ → List ℕ → Bool
@@ -58,11 +60,11 @@ pub record Keeps (b : Board) (c : ℕ) (d : List ℕ) (e : Effect) : Type 0 wher
   pub others : configures c d ≡ false → all isPlain d ≡ true → Holds b →
       (k : ℕ) → (fileOf b k .head ! 0 ≡ d ! 0 → ⊥) → fileOf (e .after) k ≡ fileOf b k
   -- refused: no reply, and the board as it was but for the register, which is the old one with the bit of that number
-  pub refused : (e .number ≡ 0 → ⊥) → (e .after ≡ board (withFault (b .settings) (e .number)) (b .memory)) × (e .reply ≡ [])
+  pub refused : (e .number ≡ 0 → ⊥) → (e .after ≡ withSettings b (withFault (b .settings) (e .number))) × (e .reply ≡ [])
   -- done: the register as it was, unless the command clears it: "a bit stays until cleared"
   pub errors : e .number ≡ 0 → e .after .settings .errors ≡ (if clears c d then CLEARED else b .settings .errors)
   -- a read that is done leaves the board as it was; "*" clears the register, and that is all that a read may change
-  pub read : isRead c ≡ true → e .number ≡ 0 → e .after ≡ board (if clears c d then cleared (b .settings) else b .settings) (b .memory)
+  pub read : isRead c ≡ true → e .number ≡ 0 → e .after ≡ withSettings b (if clears c d then cleared (b .settings) else b .settings)
   -- only a read replies, and its reply has room in the shortest reply buffer
   pub quiet : isRead c ≡ false → e .reply ≡ []
-  pub fits : length (e .reply) ≤ length (b .memory) + 64
+  pub fits : length (e .reply) ≤ replyRoom (b .memory)

@@ -1,2 +1,4 @@
+pub mod Adding
+pub mod PackingLaws
 pub mod Answer
 pub mod InEachForm

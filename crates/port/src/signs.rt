@@ -9,6 +9,7 @@ use sign::errors::port_errors;
 use sign::fresh::fresh;
 use sign::run::run;
 ghost use mathlib.Core.Path.{_≡_};
+ghost use Rattle.board.specs.Board.{board};
 ghost use Rattle.board.specs.Soundness.{sound};
 ghost use Rattle.sign.specs.Errors.{portErrors};
 ghost use Rattle.sign.specs.Fresh.{making, fresh};
@@ -26,7 +27,7 @@ pub extern "C" fn pagozkin_fresh(own: u8, memory: &mut [u8]) -> Made
 // "A board is sound when all this holds": 1, else 0.
 #[no_mangle]
 pub extern "C" fn pagozkin_is_sound(settings: Settings, memory: &[u8]) -> u8
-    ensures { λ r. ⌜ r ≡ truth (sound settings (now (memory .entry))) ⌝ }
+    ensures { λ r. ⌜ r ≡ truth (sound (board settings (now (memory .entry)))) ⌝ }
 {
     truth(sound(settings, memory))
 }
@@ -39,7 +40,7 @@ pub extern "C" fn pagozkin_run(
     reply: &mut [u8],
     frame: &[u8],
 ) -> Answer
-    ensures { λ r. ⌜ outcome r (now (memory .exit)) (now (reply .exit)) ≡ run settings (now (memory .entry)) (now (reply .entry)) (now (frame .entry)) ⌝ }
+    ensures { λ r. ⌜ outcome r (now (memory .exit)) (now (reply .exit)) ≡ run (board settings (now (memory .entry))) (now (reply .entry)) (now (frame .entry)) ⌝ }
 {
     run(settings, memory, reply, frame)
 }

@@ -6,7 +6,7 @@ use Rattle.board.specs.Settings.{inRange}
 use Rattle.board.specs.Files.{sizeOf, filesOf, heads, used, unused, labels, distinct, isAt, find}
 use Rattle.board.specs.Index.{entry, namesEach, namesNoOther, isIndex, entered, indexOf}
 use Rattle.board.specs.Soundness.{isLabel, isKind, isProtection, isSize, isStartCode, isStopCode, isCodes, isRecord, isContent, isFileAt, holdsFiles, soundMemory, keepsTrue, sound}
-use Rattle.effects.specs.Reply.{replyOf}
+use Rattle.effects.specs.Reply.{replyOf, replyRoom}
 use Rattle.effects.specs.Recording.{faultNoted}
 use Rattle.commands.specs.Commands.{holding, putMessage, writeFile, getContent, readFile}
 use Rattle.records.specs.Capitals.{recordCapitals}
@@ -16,7 +16,6 @@ use Rattle.special.specs.Special.{setTime, setSpeaker, setFormat, setDate, setA
 use Rattle.commands.specs.Blocks.{command, doBlock, runBlock}
 use Rattle.sign.specs.Run.{count, measure, onto, runBlocks, runFrame, run}
 use Rattle.sign.specs.Fresh.{fresh}
-use Rattle.sign.specs.Packing.{setsNoAddress}
 use Rattle.frame.proofs.Computing.{writes}
 
 -- who unfolds it lets every definition of the base compute
@@ -30,7 +29,7 @@ unfolding
     sizeOf filesOf heads used unused labels distinct isAt find
     entry namesEach namesNoOther isIndex entered indexOf
     isLabel isKind isProtection isSize isStartCode isStopCode isCodes isRecord isContent isFileAt holdsFiles soundMemory keepsTrue sound
-    replyOf faultNoted
+    replyOf replyRoom faultNoted
     holding putMessage writeFile getContent readFile
     recordCapitals isRecords labelsIn neededBy needed refusal sizeIn withSize laid configure
     setTime setSpeaker setFormat setDate setAddress setOffset clearErrors setBy writeSpecial
@@ -38,5 +37,4 @@ unfolding
     command doBlock runBlock
     count measure onto runBlocks runFrame run
     fresh
-    setsNoAddress
 base = tt

@@ -18,5 +18,5 @@ examples =
     & refl
     & refl & refl & (refl, refl, refl)
     & refl & refl & refl & refl & refl
-    & (λ s m o. reads-alike s m o (bytes "_01Z00_02AAHELLO_04") (bytes "\0\0\0\0\0\u{1}Z00\u{2}AAHELLO\u{4}") refl) & refl
+    & (λ b o. reads-alike b o (bytes "_01Z00_02AAHELLO_04") (bytes "\0\0\0\0\0\u{1}Z00\u{2}AAHELLO\u{4}") refl) & refl
     & tt

@@ -1,5 +1,5 @@
 -- Document 01's "Sheet of examples": the starred ones, a single table, and what each of them says.
-use Prim.Native.Nat.{ℕ, _+_}
+use Prim.Native.Nat.{ℕ}
 use Prim.Native.Char.{code}
 use Prim.Native.String.{String}
 use mathlib.Core.Path.{_≡_}
@@ -9,10 +9,10 @@ use Rattle.octets.specs.Choice.{_!_}
 use Rattle.octets.specs.Buffer.{zeros}
 use Rattle.body.specs.Sum.{checksum}
 use Rattle.board.specs.Settings.{withAddress}
-use Rattle.board.specs.declared.Settings.{Settings}
-use Rattle.sign.specs.Run.{Outcome, untouched, run}
+use Rattle.board.specs.Board.{Board, withSettings}
+use Rattle.effects.specs.Reply.{replyRoom}
+use Rattle.sign.specs.Run.{Outcome, untouched, run, next}
 use Rattle.sign.specs.Fresh.{fresh}
-use Rattle.sign.specs.Packing.{next}
 
 -- a text as bytes
 unfoldable pub bytes : String → List ℕ
@@ -21,7 +21,7 @@ bytes (String._∷_ c t) = code c ∷ bytes t
 
 -- a fresh board of type "C" with so much memory, and a reply buffer for it
 unfoldable pub start : ℕ → Outcome
-start n = let b = fresh 0x43 (zeros n) in untouched (b .answer .number) (b .answer .settings) (b .memory) (zeros (n + 64))
+start n = let x = fresh 0x43 (zeros n) in untouched (x .number) (x .made) (zeros (replyRoom (x .made .memory)))
 
 -- frames run one after another: the outcome of the last
 unfoldable pub inTurn : Outcome → List (List ℕ) → Outcome
@@ -34,7 +34,7 @@ onFresh n fs = inTurn (start n) (map bytes fs)
 
 -- a fresh board of 64 bytes at a serial address
 unfoldable pub addressedAt : ℕ → Outcome
-addressedAt a = let x = start 64 in untouched (x .answer .number) (withAddress (x .answer .settings) a) (x .memory) (x .reply)
+addressedAt a = let x = start 64 in untouched (x .number) (withSettings (x .after) (withAddress (x .after .settings) a)) (x .reply)
 
 -- an example, by what it speaks of
 pub data Example : Type 0 where
@@ -49,12 +49,12 @@ pub data Example : Type 0 where
 -- what it says
 abbrev pub Says : Example → Type 0
 Says (sums b n) = checksum (b ! 0) (drop 1 b) ≡ n
-Says (numbers m fs n) = onFresh m fs .answer .number ≡ n
-Says (reaches a f n) = next (addressedAt a) (bytes f) .answer .number ≡ n
-Says (refuses m fs p n) = (onFresh m fs .answer .number ≡ 0) × (onFresh m fs .answer .tally .place ≡ p) × (onFresh m fs .answer .tally .reason ≡ n)
-Says (stores m fs t) = take (length (bytes t)) (onFresh m fs .memory) ≡ bytes t
-Says (replies m fs t) = take (onFresh m fs .answer .tally .length) (onFresh m fs .reply) ≡ bytes t
-Says (alike f g) = (s : Settings) (m o : List ℕ) → run s m o (bytes f) ≡ run s m o (bytes g)
+Says (numbers m fs n) = onFresh m fs .number ≡ n
+Says (reaches a f n) = next (addressedAt a) (bytes f) .number ≡ n
+Says (refuses m fs p n) = (onFresh m fs .number ≡ 0) × (onFresh m fs .tally .place ≡ p) × (onFresh m fs .tally .reason ≡ n)
+Says (stores m fs t) = take (length (bytes t)) (onFresh m fs .after .memory) ≡ bytes t
+Says (replies m fs t) = take (onFresh m fs .tally .length) (onFresh m fs .reply) ≡ bytes t
+Says (alike f g) = (b : Board) (o : List ℕ) → run b o (bytes f) ≡ run b o (bytes g)
 
 -- every row of a table, by what a row says
 abbrev pub Every : {X : Type 0} → (X → Type 0) → List X → Type 0

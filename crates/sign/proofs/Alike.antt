@@ -5,21 +5,21 @@ use mathlib.Core.List.{List}
 use Rattle.reading.specs.Reading.{Reading, refused, frame, read}
 use Rattle.reading.specs.Capitals.{inCapitals}
 use Rattle.frame.proofs.Frames.{addressed-alike}
-use Rattle.board.specs.declared.Settings.{Settings}
+use Rattle.board.specs.Board.{Board}
 use Rattle.sign.specs.Run.{runFrame, run}
 
 -- what was read and the same with its header in capitals: a board is addressed alike by both
-pub run-capitals : (s : Settings) (m o : List ℕ) (r : Reading) → runFrame s m o (inCapitals r) ≡ runFrame s m o r
+pub run-capitals : (b : Board) (o : List ℕ) (r : Reading) → runFrame b o (inCapitals r) ≡ runFrame b o r
 unfolding runFrame inCapitals
-run-capitals s m o (refused n) = refl
-run-capitals s m o (frame h bs) = rw (addressed-alike h (s .own) (s .address))
+run-capitals b o (refused n) = refl
+run-capitals b o (frame h bs) = rw (addressed-alike h (b .settings .own) (b .settings .address))
 
-module _ (s : Settings) (m o f g : List ℕ) where
+module _ (b : Board) (o f g : List ℕ) where
   -- two frames that read as the same, their headers in capitals, do the same, on any board and with any reply buffer
-  pub capitals-alike : inCapitals (read f) ≡ inCapitals (read g) → run s m o f ≡ run s m o g
+  pub capitals-alike : inCapitals (read f) ≡ inCapitals (read g) → run b o f ≡ run b o g
   unfolding run
-  capitals-alike e = rw (← run-capitals s m o (read f), e, run-capitals s m o (read g))
+  capitals-alike e = rw (← run-capitals b o (read f), e, run-capitals b o (read g))
 
   -- so do two that read as the same
-  pub reads-alike : read f ≡ read g → run s m o f ≡ run s m o g
+  pub reads-alike : read f ≡ read g → run b o f ≡ run b o g
   reads-alike e = capitals-alike (ap inCapitals e)

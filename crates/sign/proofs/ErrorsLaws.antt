@@ -2,7 +2,6 @@
 use Prim.Native.Nat.{ℕ}
 use mathlib.Core.Path.{_≡_, ap, _∙_}
 use mathlib.Core.Bool.{Bool, true, false, not}
-use mathlib.Core.List.{List}
 use lib.Bits.{bitAnd}
 use borrow.Author.Needs.{needs}
 use borrow.Author.Tests.{not-true, not-false}
@@ -10,6 +9,7 @@ use Rattle.octets.proofs.Tests.{by-test, choice}
 use Rattle.register.specs.Register.{isRegister, drivenBy}
 use Rattle.register.proofs.Noting.{again, either-order, driver-fixed}
 use Rattle.board.specs.Settings.{withErrors}
+use Rattle.board.specs.Board.{Board, withSettings}
 use Rattle.board.specs.Soundness.{sound}
 use Rattle.board.specs.declared.Settings.{Settings}
 use Rattle.keeping.proofs.Keeping.{errors-sound}
@@ -32,11 +32,12 @@ pub ruleset driving = (driven-not, driven-done, needs)
 -- ---- the theorems
 
 -- a sound board stays sound
-pub port-sound : (s : Settings) (m : List ℕ) (bits : ℕ) → sound s m ≡ true → sound (portErrors s bits .settings) m ≡ true
+pub port-sound : (b : Board) (bits : ℕ) → sound b ≡ true → sound (withSettings b (portErrors (b .settings) bits .settings)) ≡ true
 unfolding portErrors
-port-sound s m bits g =
-    choice (λ (r : Driven). sound (r .settings) m ≡ true) (isRegister (s .errors))
-    (λ e. errors-sound s m (drivenBy (s .errors) bits) (driver-fixed (s .errors) bits) g) (λ e. g)
+port-sound b bits g =
+    let r = b .settings .errors in
+    choice (λ (x : Driven). sound (withSettings b (x .settings)) ≡ true) (isRegister r)
+    (λ e. errors-sound b (drivenBy r bits) (driver-fixed r bits) g) (λ e. g)
 
 -- twice over two bytes: the two outcomes behind one another
 port-twice : (s : Settings) (a b : ℕ) → isRegister (s .errors) ≡ true →

@@ -1,31 +1,37 @@
 -- What holds while the blocks of a body are run one after another, and its steps.
 use Prim.Native.Nat.{ℕ, _+_, _-_, _<_, _≤_}
 use mathlib.Core.Path.{_≡_, refl, sym, ap, _∙_}
-use mathlib.Core.Bool.{Bool, true}
+use mathlib.Core.Bool.{Bool, true, false}
 use mathlib.Core.List.{List, _∷_}
 use native.Mathlib.Omega.{arith}
 use borrow.Author.Needs.{needs}
 use lib.ListN.{length, drop}
 use Rattle.octets.specs.Choice.{_is_, part}
 use Rattle.octets.specs.Bytes.{BLOCKS}
-use Rattle.octets.proofs.Tests.{choice, never}
+use Rattle.octets.proofs.Tests.{choice, never, split}
 use Rattle.body.specs.Body.{Block, block, Body, badBody, body, prepend, blocks}
 use Rattle.body.specs.Steps.{foundAt, blocksIn, isBody, bodyAt, blocksAt}
 use Rattle.body.specs.declared.BlockStep.{BlockStep}
 use Rattle.body.specs.declared.BlockStep.the-variants.{Stray, More, Last}
 use Rattle.frame.proofs.Stepping.{stray-blocks, more-ordered, more-inside, more-plain, more-blocks, last-ordered, last-inside, last-blocks, none-blocks}
+use Rattle.board.specs.Settings.{withErrors}
+use Rattle.board.specs.Index.{ENTRIES}
+use Rattle.board.specs.Board.{Board, board, withSettings}
 use Rattle.board.specs.Soundness.{sound}
 use Rattle.board.specs.declared.Settings.{Settings}
-use Rattle.effects.specs.Effects.{board}
-use Rattle.commands.specs.Blocks.{runBlock}
-use Rattle.commands.specs.InnerDoing.{Does}
-use Rattle.effects.specs.InnerLeaving.{Ready}
+use Rattle.effects.specs.Recording.{faultNoted, withFault}
+use Rattle.effects.specs.InnerLeaving.{Left, left, leaving, leftAs, Ready}
 use Rattle.effects.specs.declared.Done.{Done}
+use Rattle.effects.proofs.ReplyLengths.{room-as}
+use Rattle.commands.specs.Blocks.{command, doBlock, runBlock}
+use Rattle.commands.specs.InnerDoing.{isSpecial, doing, Indexed, Files}
+use Rattle.commands.specs.declared.Filed.{Filed}
 use Rattle.keeping.specs.Keeping.{Sound}
 use Rattle.keeping.proofs.Keeping.{block-keeps}
 use Rattle.sign.specs.Run.{nothing, count, measure, State, state, onto, runBlocks}
-use Rattle.sign.specs.InnerRunning.{stateAs, Runnable, Running}
+use Rattle.sign.specs.InnerRunning.{stateAs, Runnable, Fileable, Leaves, Running}
 use Rattle.sign.specs.declared.Tally.{Tally}
+use Rattle.sign.specs.declared.run.Noted.{Noted}
 use Rattle.sign.specs.declared.run.Ran.{Ran}
 
 -- ---- one block
@@ -44,19 +50,34 @@ measure-total : (t : Tally) (n : ℕ) → measure t n .done + measure t n .refus
 unfolding measure
 measure-total t n = choice (λ (u : Tally). u .done + u .refused ≡ t .done + t .refused) (n is 0) (λ e. refl) (λ e. refl)
 
--- what a block did, and the counts with it
-module _ (r : Ran) (m o m′ o′ : List ℕ) (c : ℕ) (d : List ℕ) (k : Bool) (x : Done)
-    (g : Does o (runBlock (board (r .settings) m) (block c d k)) x m′ o′)
-    (u : Tally) (p : u ≡ count (r .tally) (x .number)) (v : Tally) (q : v ≡ measure u (x .length)) where
-  counts-onto : v ≡ onto (stateAs r m o) (runBlock (board (r .settings) m) (block c d k)) .counts
-  unfolding onto
-  counts-onto = rw (q, p, g .number, g .long)
+-- what a block leaves, with its counts
+onto-left : (b : Board) (o : List ℕ) (u : Tally) (k : Block) (n : ℕ) (a : Board) (o′ : List ℕ) (l : ℕ) → left n a o′ l ≡ leaving o (doBlock b k) →
+    state (withSettings a (withFault (a .settings) n)) o′ (measure (count u n) l) ≡ onto (state b o u) (runBlock b k)
+unfolding onto runBlock leaving
+onto-left b o u k n a o′ l e =
+    ap (λ (x : Left). state (withSettings (x .after) (withFault (x .after .settings) (x .number))) (x .buffer) (measure (count u (x .number)) (x .length))) e
 
-  pub one-onto : state (board (x .settings) m′) o′ v ≡ onto (stateAs r m o) (runBlock (board (r .settings) m) (block c d k))
-  unfolding onto
-  one-onto = λ i. state (board (g .settings i) (g .stored i)) (g .replied i) (counts-onto i)
+-- E or F, by what it answered
+module _ (s : Settings) (u : Tally) (m o : List ℕ) (code : ℕ) (text : List ℕ) where
+  pub special-onto : (x : Done) (m′ o′ : List ℕ) → leftAs x m′ o′ ≡ leaving o (command (board s m) code text) → (s′ : Settings) → s′ ≡ withFault (x .settings) (x .number) →
+      (v : Tally) → v ≡ count u (x .number) → (w : Tally) → w ≡ measure v (x .length) →
+      state (board s′ m′) o′ w ≡ onto (state (board s m) o u) (runBlock (board s m) (block code text true))
+  unfolding doBlock
+  special-onto x m′ o′ g s′ h v p w q =
+      rw (q, p, h) (onto-left (board s m) o u (block code text true) (x .number) (board (x .settings) m′) o′ (x .length) g)
 
-pub ruleset one-more = (one-onto, needs)
+-- any other block
+pub file-leaves : (p : List ℕ) (errors : ℕ) (u : Tally) (m o : List ℕ) (k : Block) (x : Filed) (m′ o′ : List ℕ) → Files p m o (doing k) x m′ o′ →
+    (e : ℕ) → e ≡ faultNoted errors (x .number) → (v : Tally) → v ≡ count u (x .number) → (w : Tally) → w ≡ measure v (x .length) →
+    Leaves p errors u m o k (record { tally = w; errors = e }) m′ o′
+unfolding doing
+file-leaves p errors u m o k x m′ o′ f e h v a w q =
+    record {
+      on = λ s i g.
+          rw (q, a, h, ← g) (onto-left (board s m) o u k (x .number) (board s m′) o′ (x .length) (f .on s i));
+    }
+
+pub ruleset one-more = (special-onto, file-leaves, needs)
 
 -- ---- bodies with a block in front
 
@@ -72,75 +93,104 @@ blocks-behind k (body bs) h = refl
 
 -- ---- the blocks
 
--- the counts, memory and reply buffer so far, the place of the next block and how many may stand from there on:
+-- settings, counts, memory and reply buffer so far, the place of the next block and how many may stand from there on:
 -- the board is ready, a good body stands there, and running it leaves what running the whole body leaves
-pub record Going (s : Settings) (m₀ o₀ t : List ℕ) (from : ℕ) (m o : List ℕ) (at left : ℕ) (r : Ran) : Type 0 where
-  pub ready : Ready (r .settings) m o
-  pub few : r .tally .done + r .tally .refused + left ≡ BLOCKS
-  pub long : length m ≡ length m₀
+pub record Going (b : Board) (o₀ t : List ℕ) (from : ℕ) (s : Settings) (u : Tally) (m o : List ℕ) (at left : ℕ) : Type 0 where
+  pub ready : Ready (board s m) o
+  pub entries : length (s .places) ≡ ENTRIES
+  pub few : u .done + u .refused + left ≡ BLOCKS
+  pub long : length m ≡ length (b .memory)
   pub wide : length o ≡ length o₀
   pub good : isBody (blocks left (drop at t)) ≡ true
-  pub same : runBlocks (stateAs r m o) (blocksIn (blocks left (drop at t))) ≡ runBlocks (state (board s m₀) o₀ nothing) (blocksAt t from)
+  pub same : runBlocks (state (board s m) o u) (blocksIn (blocks left (drop at t))) ≡ runBlocks (state b o₀ nothing) (blocksAt t from)
 
-pub going-start : {s : Settings} {m o t : List ℕ} {from : ℕ} → Running s m o t from → (u : Tally) → u ≡ nothing →
-    Going s m o t from m o from BLOCKS (record { tally = u; settings = s })
+pub going-start : {s : Settings} {m o t : List ℕ} {from : ℕ} → Running (board s m) o t from → length (s .places) ≡ ENTRIES → (u : Tally) → u ≡ nothing →
+    Going (board s m) o t from s u m o from BLOCKS
 unfolding bodyAt blocksAt
-going-start {s} {m} {o} {t} {from} g u e = record { ready = g .ready; few = rw e refl; long = refl; wide = refl; good = g .good; same = ap (λ (y : Tally). runBlocks (state (board s m) o y) (blocksAt t from)) e }
+going-start {s} {m} {o} {t} {from} g l u e =
+    record {
+      ready = g .ready;
+      entries = l;
+      few = rw e refl;
+      long = refl;
+      wide = refl;
+      good = g .good;
+      same = ap (λ (y : Tally). runBlocks (state (board s m) o y) (blocksAt t from)) e;
+    }
 
-module _ {s : Settings} {m₀ o₀ t : List ℕ} {from : ℕ} {m o : List ℕ} {at left : ℕ} {r : Ran} (g : Going s m₀ o₀ t from m o at left r) where
-  pub going-runnable : 0 < left → Runnable r m o
-  going-runnable p = record { ready = g .ready; few = omega arith }
+module _ {b : Board} {o₀ t : List ℕ} {from : ℕ} {s : Settings} {u : Tally} {m o : List ℕ} {at left : ℕ} (g : Going b o₀ t from s u m o at left) where
+  -- the board before the block, and its index
+  indexed : Indexed (s .places) m s
+  indexed = record { index = refl; sound = g .ready .sound }
+
+  pub going-special : 0 < left → (c : ℕ) (k x : Bool) → x ≡ isSpecial c k → x ≡ true → Runnable s u m o c
+  unfolding isSpecial
+  going-special p c k x e h =
+      record { ready = g .ready; few = omega arith; special = split k (sym e ∙ h) .1 }
+
+  pub going-file : 0 < left → (c : ℕ) (k x : Bool) → x ≡ isSpecial c k → x ≡ false → Fileable (s .places) u m o c k
+  going-file p c k x e h =
+      record {
+        board = record { long = g .entries; settings = s; indexed = indexed };
+        room = g .ready .room;
+        few = omega arith;
+        other = sym e ∙ h;
+      }
 
   -- a good body is no bad one
   never-bad : {X : Type 0} → blocks left (drop at t) ≡ badBody → X
   unfolding isBody
   never-bad h = never (sym (sym (ap isBody h) ∙ g .good))
 
-  pub going-end : left ≤ 0 → stateAs r m o ≡ runBlocks (state (board s m₀) o₀ nothing) (blocksAt t from)
+  pub going-end : left ≤ 0 → state (board s m) o u ≡ runBlocks (state b o₀ nothing) (blocksAt t from)
   going-end p = never-bad (none-blocks (drop at t) left p)
 
   module _ (p : 0 < left) (x : BlockStep) (e : x ≡ foundAt t at) where
-    pub going-stray : x ≡ Stray → stateAs r m o ≡ runBlocks (state (board s m₀) o₀ nothing) (blocksAt t from)
+    pub going-stray : x ≡ Stray → state (board s m) o u ≡ runBlocks (state b o₀ nothing) (blocksAt t from)
     going-stray h = never-bad (stray-blocks t at x e h left p)
 
-    module _ {c i j : ℕ} {k : Bool} {r′ : Ran} {m′ o′ : List ℕ}
-        (f : stateAs r′ m′ o′ ≡ onto (stateAs r m o) (runBlock (board (r .settings) m) (block c (part i j t) k))) where
-      pub going-last : x ≡ Last c i j k → stateAs r′ m′ o′ ≡ runBlocks (state (board s m₀) o₀ nothing) (blocksAt t from)
+    -- a block was run; s′, u′, m′ and o′ are what it left
+    module _ (c i j : ℕ) (k : Bool) (s′ : Settings) (u′ : Tally) (m′ o′ : List ℕ)
+        (f : state (board s′ m′) o′ u′ ≡ onto (state (board s m) o u) (runBlock (board s m) (block c (part i j t) k))) where
+      last : x ≡ Last c i j k → state (board s′ m′) o′ u′ ≡ runBlocks (state b o₀ nothing) (blocksAt t from)
       unfolding runBlocks blocksIn
-      going-last h = f ∙ sym (ap (λ (y : Body). runBlocks (stateAs r m o) (blocksIn y)) (last-blocks t at x e h left p)) ∙ g .same
+      last h = f ∙ sym (ap (λ (y : Body). runBlocks (state (board s m) o u) (blocksIn y)) (last-blocks t at x e h left p)) ∙ g .same
 
-      module _ {n : ℕ} (h : x ≡ More c i j k n) where
-        b : Block
-        b = block c (part i j t) k
+      module _ (n : ℕ) (h : x ≡ More c i j k n) where
+        first : Block
+        first = block c (part i j t) k
 
         rest : Body
         rest = blocks (left - 1) (drop n t)
 
-        here : blocks left (drop at t) ≡ prepend b rest
-        unfolding b rest
+        here : blocks left (drop at t) ≡ prepend first rest
+        unfolding first rest
         here = more-blocks t at x e h left p
 
         rest-good : isBody rest ≡ true
-        rest-good = good-behind b rest (sym (ap isBody here) ∙ g .good)
+        rest-good = good-behind first rest (sym (ap isBody here) ∙ g .good)
 
-        ahead : runBlocks (onto (stateAs r m o) (runBlock (board (r .settings) m) b)) (blocksIn rest)
-            ≡ runBlocks (stateAs r m o) (blocksIn (blocks left (drop at t)))
+        ahead : runBlocks (onto (state (board s m) o u) (runBlock (board s m) first)) (blocksIn rest)
+            ≡ runBlocks (state (board s m) o u) (blocksIn (blocks left (drop at t)))
         unfolding runBlocks
-        ahead = sym (ap (λ (y : Body). runBlocks (stateAs r m o) (blocksIn y)) here ∙ ap (runBlocks (stateAs r m o)) (blocks-behind b rest rest-good))
+        ahead =
+            sym (ap (λ (y : Body). runBlocks (state (board s m) o u) (blocksIn y)) here
+            ∙ ap (runBlocks (state (board s m) o u)) (blocks-behind first rest rest-good))
 
-        sound-after : Sound (board (r′ .settings) m′)
-        unfolding b onto
-        sound-after = ap (λ (y : State). sound (y .now .settings) (y .now .memory)) f ∙ block-keeps (board (r .settings) m) b .sound (more-plain t at x e h) (g .ready .sound)
+        sound-after : Sound (board s′ m′)
+        unfolding first onto
+        sound-after = ap (λ (y : State). sound (y .now)) f ∙ block-keeps (board s m) first .sound (more-plain t at x e h) (g .ready .sound)
 
-        pub going-more : length m′ ≡ length m → length o′ ≡ length o → Going s m₀ o₀ t from m′ o′ n (left - 1) r′
-        unfolding b rest onto
-        going-more lm lo =
-            let z = runBlock (board (r .settings) m) b in
-            let total : r′ .tally .done + r′ .tally .refused ≡ r .tally .done + r .tally .refused + 1 =
+        more : length (s′ .places) ≡ ENTRIES → length m′ ≡ length m → length o′ ≡ length o → Going b o₀ t from s′ u′ m′ o′ n (left - 1)
+        unfolding first rest onto
+        more ls lm lo =
+            let z = runBlock (board s m) first in
+            let total : u′ .done + u′ .refused ≡ u .done + u .refused + 1 =
             ap (λ (y : State). y .counts .done + y .counts .refused) f
-            ∙ measure-total (count (r .tally) (z .number)) (length (z .reply)) ∙ count-total (r .tally) (z .number) in
+            ∙ measure-total (count u (z .number)) (length (z .reply)) ∙ count-total u (z .number) in
             record {
-              ready = record { sound = sound-after; room = rw (lm, lo) (g .ready .room) };
+              ready = record { sound = sound-after; room = rw lo (room-as m m′ lm (g .ready .room)) };
+              entries = ls;
               few = omega arith;
               long = lm ∙ g .long;
               wide = lo ∙ g .wide;
@@ -148,4 +198,30 @@ module _ {s : Settings} {m₀ o₀ t : List ℕ} {from : ℕ} {m o : List ℕ} {
               same = ap (λ (y : State). runBlocks y (blocksIn rest)) f ∙ ahead ∙ g .same;
             }
 
-pub ruleset going = (going-start, going-runnable, going-end, going-stray, going-last, going-more, more-ordered, more-inside, last-ordered, last-inside, needs)
+    -- E or F; y is the code's answer to that
+    module _ (c i j : ℕ) (k : Bool) (y : Bool) (q : y ≡ isSpecial c k) (z : y ≡ true) {r : Ran} {m′ o′ : List ℕ}
+        (f : stateAs r m′ o′ ≡ onto (state (board s m) o u) (runBlock (board s m) (block c (part i j t) true))) where
+      right : stateAs r m′ o′ ≡ onto (state (board s m) o u) (runBlock (board s m) (block c (part i j t) k))
+      unfolding isSpecial
+      right = f ∙ ap (λ (v : Bool). onto (state (board s m) o u) (runBlock (board s m) (block c (part i j t) v))) (sym (split k (sym q ∙ z) .0))
+
+      pub special-last : x ≡ Last c i j k → stateAs r m′ o′ ≡ runBlocks (state b o₀ nothing) (blocksAt t from)
+      special-last = last c i j k (r .settings) (r .tally) m′ o′ right
+
+      pub special-more : {n : ℕ} → x ≡ More c i j k n → length (r .settings .places) ≡ ENTRIES → length m′ ≡ length m → length o′ ≡ length o →
+          Going b o₀ t from (r .settings) (r .tally) m′ o′ n (left - 1)
+      special-more {n} h = more c i j k (r .settings) (r .tally) m′ o′ right n h
+
+    -- any other
+    module _ (c i j : ℕ) (k : Bool) {r : Noted} {m′ o′ : List ℕ} (f : Leaves (s .places) (s .errors) u m o (block c (part i j t) k) r m′ o′) where
+      left-on : state (board (withErrors s (r .errors)) m′) o′ (r .tally) ≡ onto (state (board s m) o u) (runBlock (board s m) (block c (part i j t) k))
+      left-on = f .on s indexed refl
+
+      pub file-last : x ≡ Last c i j k → state (board (withErrors s (r .errors)) m′) o′ (r .tally) ≡ runBlocks (state b o₀ nothing) (blocksAt t from)
+      file-last = last c i j k (withErrors s (r .errors)) (r .tally) m′ o′ left-on
+
+      pub file-more : {n : ℕ} → x ≡ More c i j k n → length m′ ≡ length m → length o′ ≡ length o →
+          Going b o₀ t from (withErrors s (r .errors)) (r .tally) m′ o′ n (left - 1)
+      file-more {n} h = more c i j k (withErrors s (r .errors)) (r .tally) m′ o′ left-on n h (g .entries)
+
+pub ruleset going = (going-start, going-special, going-file, going-end, going-stray, special-last, special-more, file-last, file-more, more-ordered, more-inside, last-ordered, last-inside, needs)

@@ -1,9 +1,10 @@
--- Laws of runs: how they join, what they count, what they keep; packing; and what the functions go by.
-pub mod Adding
+-- Laws of runs: what they count, what they keep, the register through one, fresh boards, what is refused with 1; and what the functions go by.
 pub mod RunLaws
+pub mod NotSound
 pub mod Steady
+pub mod Through
+pub mod FreshBoards
 pub mod ErrorsLaws
-pub mod PackingLaws
 pub mod Alike
 pub mod Unique
 pub mod Counting

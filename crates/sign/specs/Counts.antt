@@ -4,7 +4,7 @@ use mathlib.Core.Path.{_≡_}
 use mathlib.Core.List.{List, [], _∷_}
 use Rattle.octets.specs.Choice.{if_then_else_, _is_}
 use Rattle.body.specs.Body.{Block}
-use Rattle.effects.specs.Effects.{Board}
+use Rattle.board.specs.Board.{Board}
 use Rattle.commands.specs.Blocks.{runBlock}
 use Rattle.sign.specs.declared.Tally.{Tally}
 

@@ -10,26 +10,27 @@ use Rattle.header.specs.Addressing.{isOwnType}
 use Rattle.register.specs.Register.{CLEARED}
 use Rattle.board.specs.Settings.{FORMAT-S, OFF, settings}
 use Rattle.board.specs.Index.{ENTRIES, noEntries}
+use Rattle.board.specs.Board.{Board, board}
 use Rattle.board.specs.Soundness.{isMemory}
 use Rattle.board.specs.declared.Settings.{Settings}
 use Rattle.sign.specs.declared.Made.{Made}
 
--- what the call answers, and memory after it
+-- what the call answers and leaves: its number, and the board
 pub record Making : Type 0 where
-  pub answer : Made
-  pub memory : List ℕ
+  pub number : ℕ
+  pub made : Board
 
--- an answer beside memory
-abbrev pub making : Made → List ℕ → Making
-making r m = record { answer = r; memory = m }
+-- such a making
+abbrev pub makes : ℕ → Board → Making
+makes n b = record { number = n; made = b }
 
 -- an answer's number and settings
 abbrev pub madeAs : ℕ → Settings → Made
 madeAs n s = record { number = n; settings = s }
 
--- number, settings, memory
-abbrev pub makes : ℕ → Settings → List ℕ → Making
-makes n s m = making (madeAs n s) m
+-- by an answer and memory
+abbrev pub making : Made → List ℕ → Making
+making r m = makes (r .number) (board (r .settings) m)
 
 -- "settings from 10 or 11 all zero"
 abbrev pub allZero : Settings
@@ -37,7 +38,7 @@ allZero = settings 0 0 0 0 0 0 0 0 0 0 0 (replicate ENTRIES 0) (pos 0) 0
 
 -- "memory untouched"
 abbrev pub unmade : ℕ → List ℕ → Making
-unmade n m = makes n allZero m
+unmade n m = makes n (board allZero m)
 
 -- "A fresh board has 00:00, 01 01 00, format S, speaker off, address 00, no files", and its own type; request 3: all of its memory,
 -- so many bytes, is unused; request 7: no label has a record; request 9: "Fresh boards hold 0."; request 10: "A fresh register is a
@@ -50,4 +51,4 @@ unfoldable pub fresh : ℕ → List ℕ → Making
 fresh t m =
     if not (isOwnType t) then unmade 10 m
     else if not (isMemory (length m)) then unmade 11 m
-    else makes 0 (freshSettings t (length m)) (zeros (length m))
+    else makes 0 (board (freshSettings t (length m)) (zeros (length m)))

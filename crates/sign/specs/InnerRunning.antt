@@ -1,39 +1,58 @@
 -- For contracts of inner functions only: what the parts of a run need and answer, by the definitions.
 use Prim.Native.Nat.{ℕ, _+_, _≤_, _<_}
 use mathlib.Core.Path.{_≡_}
-use mathlib.Core.Bool.{true}
+use mathlib.Core.Bool.{Bool, true, false}
 use mathlib.Core.List.{List}
 use lib.ListN.{length}
 use Rattle.octets.specs.Bytes.{BLOCKS}
+use Rattle.body.specs.Body.{Block}
 use Rattle.body.specs.Steps.{bodyAt}
+use Rattle.board.specs.Settings.{withErrors}
+use Rattle.board.specs.Board.{Board, board}
 use Rattle.board.specs.declared.Settings.{Settings}
-use Rattle.effects.specs.Effects.{board}
+use Rattle.effects.specs.Reply.{replyRoom}
 use Rattle.effects.specs.InnerLeaving.{Ready}
-use Rattle.sign.specs.Run.{State, state}
+use Rattle.commands.specs.Blocks.{runBlock}
+use Rattle.commands.specs.InnerDoing.{isSpecial, Indexed, OfBoard}
+use Rattle.sign.specs.Run.{State, state, onto}
 use Rattle.sign.specs.declared.Tally.{Tally}
 use Rattle.sign.specs.declared.Answer.{Answer}
+use Rattle.sign.specs.declared.run.Noted.{Noted}
 use Rattle.sign.specs.declared.run.Ran.{Ran}
 
 -- a run's answer
 abbrev pub answerAs : ℕ → Tally → Settings → Answer
 answerAs n t s = record { number = n; tally = t; settings = s }
 
--- settings and counts beside memory and reply buffer
+-- counts and settings beside memory and reply buffer
 abbrev pub stateAs : Ran → List ℕ → List ℕ → State
 stateAs r m o = state (board (r .settings) m) o (r .tally)
 
--- one block more may be run
-pub record Runnable (r : Ran) (m o : List ℕ) : Type 0 where
-  pub ready : Ready (r .settings) m o
-  pub few : r .tally .done + r .tally .refused < BLOCKS
+-- E or F may be run: the board is ready, and fewer blocks than a frame has were run before
+pub record Runnable (s : Settings) (u : Tally) (m o : List ℕ) (code : ℕ) : Type 0 where
+  pub ready : Ready (board s m) o
+  pub few : u .done + u .refused < BLOCKS
+  pub special : isSpecial code true ≡ true
+
+-- and so may any other block, for which the index of a board is enough
+pub record Fileable (p : List ℕ) (u : Tally) (m o : List ℕ) (code : ℕ) (right : Bool) : Type 0 where
+  pub board : OfBoard p m
+  pub room : replyRoom m ≤ length o
+  pub few : u .done + u .refused < BLOCKS
+  pub other : isSpecial code right ≡ false
+
+-- what that leaves of every sound board of this index, this memory and this register: another register, memory, reply buffer, counts
+pub record Leaves (p : List ℕ) (errors : ℕ) (u : Tally) (m o : List ℕ) (k : Block) (r : Noted) (m′ o′ : List ℕ) : Type 0 where
+  pub on : (s : Settings) → Indexed p m s → s .errors ≡ errors →
+      state (board (withErrors s (r .errors)) m′) o′ (r .tally) ≡ onto (state (board s m) o u) (runBlock (board s m) k)
 
 -- a good body stands at a place, and the board is ready
-pub record Running (s : Settings) (m o t : List ℕ) (from : ℕ) : Type 0 where
-  pub ready : Ready s m o
+pub record Running (b : Board) (o t : List ℕ) (from : ℕ) : Type 0 where
+  pub ready : Ready b o
   pub good : bodyAt t from ≡ true
 
 -- and its header text before it
-pub record Framed (s : Settings) (m o t : List ℕ) (header from : ℕ) : Type 0 where
-  pub running : Running s m o t from
+pub record Framed (b : Board) (o t : List ℕ) (header from : ℕ) : Type 0 where
+  pub running : Running b o t from
   pub ordered : header ≤ from
   pub inside : from ≤ length t

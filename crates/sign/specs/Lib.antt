@@ -3,5 +3,4 @@ pub mod Run
 pub mod Fresh
 pub mod Errors
 pub mod Counts
-pub mod Packing
 pub mod InnerRunning

@@ -8,10 +8,11 @@ use Rattle.octets.specs.Buffer.{overlay}
 use Rattle.body.specs.Body.{Block}
 use Rattle.header.specs.Addressing.{addressed}
 use Rattle.reading.specs.Reading.{Reading, refused, frame, read}
+use Rattle.board.specs.Board.{Board, board}
 use Rattle.board.specs.Soundness.{sound}
-use Rattle.effects.specs.Effects.{Board, board, Effect}
+use Rattle.effects.specs.Reply.{replyRoom}
+use Rattle.effects.specs.Effects.{Effect}
 use Rattle.commands.specs.Blocks.{runBlock}
-use Rattle.board.specs.declared.Settings.{Settings}
 use Rattle.sign.specs.declared.Tally.{Tally}
 use Rattle.sign.specs.declared.Answer.{Answer}
 
@@ -53,38 +54,43 @@ unfoldable pub runBlocks : State → List Block → State
 runBlocks st [] = st
 runBlocks st (k ∷ ks) = runBlocks (onto st (runBlock (st .now) k)) ks
 
--- what a run answers, and memory and reply buffer after it
+-- what a run answers and leaves: its number and counts, the board after it, and the reply buffer
 pub record Outcome : Type 0 where
-  pub answer : Answer
-  pub memory : List ℕ
+  pub number : ℕ
+  pub tally : Tally
+  pub after : Board
   pub reply : List ℕ
 
--- an answer beside memory and a buffer
-abbrev pub outcome : Answer → List ℕ → List ℕ → Outcome
-outcome r m o = record { answer = r; memory = m; reply = o }
+-- such an outcome
+abbrev pub outcomeAs : ℕ → Tally → Board → List ℕ → Outcome
+outcomeAs n t b o = record { number = n; tally = t; after = b; reply = o }
 
--- number, counts, settings, memory, reply buffer
-abbrev pub outcomeAs : ℕ → Tally → Settings → List ℕ → List ℕ → Outcome
-outcomeAs n t s m o = outcome (record { number = n; tally = t; settings = s }) m o
+-- by an answer, memory and a reply buffer
+abbrev pub outcome : Answer → List ℕ → List ℕ → Outcome
+outcome r m o = outcomeAs (r .number) (r .tally) (board (r .settings) m) o
 
 -- "1 to 9: board and buffers untouched, everything else returned is 0."
-abbrev pub untouched : ℕ → Settings → List ℕ → List ℕ → Outcome
-untouched n s m o = outcomeAs n nothing s m o
+abbrev pub untouched : ℕ → Board → List ℕ → Outcome
+untouched n b o = outcomeAs n nothing b o
 
 -- "20 to 27 concern one block; the frame's number is 0."
 abbrev pub ran : State → Outcome
-ran st = outcomeAs 0 (st .counts) (st .now .settings) (st .now .memory) (st .buffer)
+ran st = outcomeAs 0 (st .counts) (st .now) (st .buffer)
 
 -- 3 to 8; 9 "not addressed"
-unfoldable pub runFrame : Settings → List ℕ → List ℕ → Reading → Outcome
-runFrame s m o (refused n) = untouched n s m o
-runFrame s m o (frame h bs) =
-    if not (addressed (s .own) (s .address) h) then untouched 9 s m o
-    else ran (runBlocks (state (board s m) o nothing) bs)
+unfoldable pub runFrame : Board → List ℕ → Reading → Outcome
+runFrame b o (refused n) = untouched n b o
+runFrame b o (frame h bs) =
+    if not (addressed (b .settings .own) (b .settings .address) h) then untouched 9 b o
+    else ran (runBlocks (state b o nothing) bs)
 
 -- 1 "board not sound", 2 "reply buffer shorter than memory plus 64"
-unfoldable pub run : Settings → List ℕ → List ℕ → List ℕ → Outcome
-run s m o f =
-    if not (sound s m) then untouched 1 s m o
-    else if length o <? length m + 64 then untouched 2 s m o
-    else runFrame s m o (read f)
+unfoldable pub run : Board → List ℕ → List ℕ → Outcome
+run b o f =
+    if not (sound b) then untouched 1 b o
+    else if length o <? replyRoom (b .memory) then untouched 2 b o
+    else runFrame b o (read f)
+
+-- a frame on the board and the reply buffer that a run left
+abbrev pub next : Outcome → List ℕ → Outcome
+next x g = run (x .after) (x .reply) g

@@ -6,7 +6,11 @@ use crate::numbers::NOT_SOUND;
 use crate::numbers::REPLY_TOO_SHORT;
 use board::Settings;
 use board::soundness::sound;
-use commands::blocks::run_block;
+use commands::blocks::file_block;
+use commands::blocks::is_special;
+use commands::blocks::special_block;
+use effects::recording::fault_noted;
+use effects::recording::recorded;
 use frame::BlockStep;
 use frame::Read;
 use frame::addressed;
@@ -16,22 +20,29 @@ use frame::read_bare;
 use frame::step_from;
 use octets::bytes::BLOCKS;
 ghost use mathlib.Core.Path.{_≡_};
-ghost use mathlib.Core.Bool.{false};
+ghost use mathlib.Core.Bool.{true, false};
 ghost use Prim.Native.Nat.{_+_, _<_};
+ghost use lib.ListN.{length};
 ghost use Rattle.octets.specs.Choice.{part};
 ghost use Rattle.octets.specs.Bytes.{BLOCKS};
 ghost use Rattle.body.specs.Body.{block};
 ghost use Rattle.body.specs.Steps.{blocksAt};
 ghost use Rattle.reading.specs.Reading.{frame, read};
 ghost use Rattle.reading.specs.Places.{isPrintable};
-ghost use Rattle.effects.specs.Effects.{board};
+ghost use Rattle.board.specs.Board.{board};
 ghost use Rattle.effects.specs.InnerLeaving.{Ready};
 ghost use Rattle.commands.specs.Blocks.{runBlock};
 ghost use Rattle.sign.specs.Run.{nothing, count, measure, state, onto, runBlocks, outcome, runFrame, run};
-ghost use Rattle.sign.specs.InnerRunning.{answerAs, Runnable, Running, Framed, stateAs};
+ghost use Rattle.sign.specs.InnerRunning.{answerAs, stateAs, Runnable, Fileable, Leaves, Running, Framed};
 
 // "reply buffer shorter than memory plus 64"
 const REPLY_ROOM: usize = 64;
+
+// The counts and the register behind a block that leaves the other settings.
+pub struct Noted {
+    pub tally: Tally,
+    pub errors: u8,
+}
 
 // The counts and the settings behind the blocks that were run.
 pub struct Ran {
@@ -113,41 +124,86 @@ fn untouched(s: Settings, number: u8) -> Answer
     }
 }
 
-// One block, and the counts with it.
-fn run_one(ran: Ran, m: &mut [u8], command: u8, text: &[u8], right: bool, out: &mut [u8]) -> Ran
-    requires { ⌜ Runnable ran (now m) (now out) ⌝ }
-    ensures { λ r. ⌜ stateAs r (now (m .exit)) (now (out .exit)) ≡ onto (stateAs ran (now (m .entry)) (now (out .entry))) (runBlock (board (ran .settings) (now (m .entry))) (block command (now (text .entry)) right)) ⌝ }
+// E or F, and the counts with it; its number is noted in the register.
+fn special_one(
+    s: Settings,
+    tally: Tally,
+    m: &mut [u8],
+    command: u8,
+    text: &[u8],
+    out: &mut [u8],
+) -> Ran
+    requires { ⌜ Runnable s tally (now m) (now out) command ⌝ }
+    ensures { λ r. ⌜ stateAs r (now (m .exit)) (now (out .exit)) ≡ onto (state (board s (now (m .entry))) (now (out .entry)) tally) (runBlock (board s (now (m .entry))) (block command (now (text .entry)) true)) ⌝ }
+    ensures { λ r. ⌜ length (r .settings .places) ≡ 95 ⌝ }
 {
-    let settings = ran.settings;
-    let tally = ran.tally;
-    let done = run_block(settings, m, command, text, right, out);
+    let done = special_block(s, m, command, text, out);
+    let number = done.number;
     let next = done.settings;
     Ran {
-        tally: tally.count(done.number).measure(done.length),
-        settings: next,
+        tally: tally.count(number).measure(done.length),
+        settings: recorded(next, number),
     }
 }
 
-// The blocks in order, taken by the reader; a refused block changes nothing but the register, and the blocks behind it run.
+// Any other block: of the settings it looks at the index, and its number is noted in the register.
+fn file_one(
+    places: &[u16],
+    errors: u8,
+    tally: Tally,
+    m: &mut [u8],
+    command: u8,
+    text: &[u8],
+    right: bool,
+    out: &mut [u8],
+) -> Noted
+    requires { ⌜ Fileable (now places) tally (now m) (now out) command right ⌝ }
+    ensures { λ r. ⌜ Leaves (now (places .entry)) errors tally (now (m .entry)) (now (out .entry)) (block command (now (text .entry)) right) r (now (m .exit)) (now (out .exit)) ⌝ }
+{
+    let filed = file_block(places, m, command, text, right, out);
+    let number = filed.number;
+    Noted {
+        tally: tally.count(number).measure(filed.length),
+        errors: fault_noted(errors, number),
+    }
+}
+
+// The blocks in order, taken by the reader; a refused block changes nothing but the register, and the blocks behind it run. The settings
+// stay here: E and F are handed them, every other block their index and the register.
 fn run_blocks(s: Settings, m: &mut [u8], out: &mut [u8], t: &[u8], from: usize) -> Ran
-    requires { ⌜ Running s (now m) (now out) (now t) from ⌝ }
+    requires { ⌜ Running (board s (now m)) (now out) (now t) from ⌝ }
     ensures { λ r. ⌜ stateAs r (now (m .exit)) (now (out .exit)) ≡ runBlocks (state (board s (now (m .entry))) (now (out .entry)) nothing) (blocksAt (now (t .entry)) from) ⌝ }
 {
     let mut at = from;
     let mut left: usize = BLOCKS;
-    let mut ran = Ran {
-        tally: Tally::none(),
-        settings: s,
-    };
+    let mut settings = s;
+    let mut tally = Tally::none();
     while 0 < left {
         match step_from(t, at) {
-            BlockStep::Stray => return ran,
+            BlockStep::Stray => return Ran { tally, settings },
             BlockStep::Last {
                 command,
                 from: i,
                 to: j,
                 right,
-            } => return run_one(ran, m, command, &t[i..j], right, out),
+            } => {
+                if is_special(command, right) {
+                    return special_one(settings, tally, m, command, &t[i..j], out);
+                }
+                let noted = file_one(
+                    &settings.places,
+                    settings.errors,
+                    tally,
+                    m,
+                    command,
+                    &t[i..j],
+                    right,
+                    out,
+                );
+                settings.errors = noted.errors;
+                tally = noted.tally;
+                return Ran { tally, settings };
+            }
             BlockStep::More {
                 command,
                 from: i,
@@ -155,13 +211,30 @@ fn run_blocks(s: Settings, m: &mut [u8], out: &mut [u8], t: &[u8], from: usize) 
                 right,
                 next,
             } => {
-                ran = run_one(ran, m, command, &t[i..j], right, out);
                 at = next;
                 left -= 1;
+                if is_special(command, right) {
+                    let ran = special_one(settings, tally, m, command, &t[i..j], out);
+                    settings = ran.settings;
+                    tally = ran.tally;
+                    continue;
+                }
+                let noted = file_one(
+                    &settings.places,
+                    settings.errors,
+                    tally,
+                    m,
+                    command,
+                    &t[i..j],
+                    right,
+                    out,
+                );
+                settings.errors = noted.errors;
+                tally = noted.tally;
             }
         }
     }
-    ran
+    Ran { tally, settings }
 }
 
 // A frame that was read, on a sound board: 9, or its blocks.
@@ -173,8 +246,8 @@ fn run_frame(
     header: usize,
     from: usize,
 ) -> Answer
-    requires { ⌜ Framed s (now m) (now out) (now t) header from ⌝ }
-    ensures { λ r. ⌜ outcome r (now (m .exit)) (now (out .exit)) ≡ runFrame s (now (m .entry)) (now (out .entry)) (frame (part header from (now (t .entry))) (blocksAt (now (t .entry)) from)) ⌝ }
+    requires { ⌜ Framed (board s (now m)) (now out) (now t) header from ⌝ }
+    ensures { λ r. ⌜ outcome r (now (m .exit)) (now (out .exit)) ≡ runFrame (board s (now (m .entry))) (now (out .entry)) (frame (part header from (now (t .entry))) (blocksAt (now (t .entry)) from)) ⌝ }
 {
     if !addressed(&t[header..from], s.own, s.address) {
         return untouched(s, NOT_ADDRESSED);
@@ -191,8 +264,8 @@ fn run_frame(
 
 // Any frame on a sound board: a printable one needs a room for the bytes that it stands for.
 fn run_roomed(s: Settings, m: &mut [u8], out: &mut [u8], bytes: &[u8]) -> Answer
-    requires { ⌜ Ready s (now m) (now out) ⌝ }
-    ensures { λ r. ⌜ outcome r (now (m .exit)) (now (out .exit)) ≡ runFrame s (now (m .entry)) (now (out .entry)) (read (now (bytes .entry))) ⌝ }
+    requires { ⌜ Ready (board s (now m)) (now out) ⌝ }
+    ensures { λ r. ⌜ outcome r (now (m .exit)) (now (out .exit)) ≡ runFrame (board s (now (m .entry))) (now (out .entry)) (read (now (bytes .entry))) ⌝ }
 {
     let mut room = [0u8; 8192];
     // An answer is handed back where it is made: as the value of the match its settings would be copied once more.
@@ -212,9 +285,9 @@ fn run_roomed(s: Settings, m: &mut [u8], out: &mut [u8], bytes: &[u8]) -> Answer
 
 // One that is not printable needs none: this stands by itself, so that no room is cleared for it.
 fn run_bare(s: Settings, m: &mut [u8], out: &mut [u8], bytes: &[u8]) -> Answer
-    requires { ⌜ Ready s (now m) (now out) ⌝ }
+    requires { ⌜ Ready (board s (now m)) (now out) ⌝ }
     requires { ⌜ isPrintable (now bytes) ≡ false ⌝ }
-    ensures { λ r. ⌜ outcome r (now (m .exit)) (now (out .exit)) ≡ runFrame s (now (m .entry)) (now (out .entry)) (read (now (bytes .entry))) ⌝ }
+    ensures { λ r. ⌜ outcome r (now (m .exit)) (now (out .exit)) ≡ runFrame (board s (now (m .entry))) (now (out .entry)) (read (now (bytes .entry))) ⌝ }
 {
     match read_bare(bytes) {
         Read::Refused(number) => return untouched(s, number),
@@ -230,7 +303,7 @@ fn run_bare(s: Settings, m: &mut [u8], out: &mut [u8], bytes: &[u8]) -> Answer
 
 // Running: a frame on a board, with a reply buffer.
 pub fn run(s: Settings, m: &mut [u8], out: &mut [u8], bytes: &[u8]) -> Answer
-    ensures { λ r. ⌜ outcome r (now (m .exit)) (now (out .exit)) ≡ run s (now (m .entry)) (now (out .entry)) (now (bytes .entry)) ⌝ }
+    ensures { λ r. ⌜ outcome r (now (m .exit)) (now (out .exit)) ≡ run (board s (now (m .entry))) (now (out .entry)) (now (bytes .entry)) ⌝ }
 {
     if !sound(s, m) {
         return untouched(s, NOT_SOUND);

@@ -26,19 +26,13 @@ use Rattle.temperature.proofs.OffsetLaws.{two-long, second-digit}
 use Rattle.temperature.specs.Offset.{isSignedDigit, signedDigit}
 use Rattle.board.specs.Settings.{FORMAT-S, FORMAT-M, OFF, ON, inDate, withTime, withDate, withFormat, withSpeaker, withAddress, withOffset, cleared}
 use Rattle.board.specs.declared.Settings.{Settings}
-use Rattle.effects.specs.Effects.{board}
+use Rattle.board.specs.Board.{board}
+use Rattle.effects.specs.Effects.{refuse}
 use Rattle.special.specs.Configuration.{configure}
 use Rattle.special.specs.Special.{TIME, SPEAKER, CONFIGURATION, FORMAT, ADDRESS, DATE, OFFSET, CLEAR}
-use Rattle.special.specs.Special.{Change, to, malformed, unknown, setTime, setSpeaker, setFormat, setDate, setAddress, setOffset, clearErrors, setBy, change, writeSpecial}
-use Rattle.effects.specs.InnerLeaving.{doneAs, Acts}
-use Rattle.special.specs.InnerChanging.{changed}
-use Rattle.effects.specs.declared.Done.{Done}
-use Rattle.effects.proofs.Outcomes.{acts-refused}
-
--- the answer to what was made of the settings
-pub answered : (n : ℕ) (t : Settings) (x : Change) (r : Done) → r ≡ doneAs n t 0 → record { number = n; settings = t } ≡ x → r ≡ changed x
-unfolding changed
-answered n t x r e h = e ∙ ap changed h
+use Rattle.special.specs.Special.{to, malformed, unknown, setTime, setSpeaker, setFormat, setDate, setAddress, setOffset, clearErrors, setBy, change, writeSpecial}
+use Rattle.effects.specs.InnerLeaving.{changing}
+use Rattle.effects.specs.declared.Changed.{Changed}
 
 -- data that are digits alone: b is the code's answer
 pub digits-alone : (d : List ℕ) (b : Bool) → b ≡ all isDecimal d → not b ≡ false → all isDecimal d ≡ true
@@ -65,7 +59,7 @@ module _ (s : Settings) (d : List ℕ) where
       unfolding setTime
       time-right n r g = rw (eq-eqb (length d) 4 l, ← e, not-false b h, ← p, ← q, ← f, not-false t n, g)
 
-pub ruleset timing = (answered, digits-alone, time-length, time-letters, time-late, time-right, needs)
+pub ruleset timing = (digits-alone, time-length, time-letters, time-late, time-right, needs)
 
 -- ---- the date
 
@@ -89,7 +83,7 @@ module _ (s : Settings) (d : List ℕ) where
       unfolding setDate
       date-right n r g = rw (eq-eqb (length d) 6 l, ← e, not-false b h, ← p, ← q, ← w, ← f, not-false t n, g)
 
-pub ruleset dating = (answered, digits-alone, date-length, date-letters, date-none, date-right, needs)
+pub ruleset dating = (digits-alone, date-length, date-letters, date-none, date-right, needs)
 
 -- ---- the speaker
 
@@ -121,7 +115,7 @@ module _ (s : Settings) (d : List ℕ) (b : Bool) (e : b ≡ same d (ZERO ∷ ZE
     unfolding setSpeaker
     speaker-neither k = rw (on-test, h, off-test, k)
 
-pub ruleset speaking = (answered, speaker-on, speaker-off, speaker-neither, needs)
+pub ruleset speaking = (speaker-on, speaker-off, speaker-neither, needs)
 
 -- ---- the time format
 
@@ -139,7 +133,7 @@ module _ (s : Settings) (d : List ℕ) where
     unfolding setFormat
     format-right h r g = rw (eq-eqb (length d) 1 l, ← p, ← e, not-false b h, g)
 
-pub ruleset formatting = (answered, format-length, format-other, format-right, needs)
+pub ruleset formatting = (format-length, format-other, format-right, needs)
 
 -- ---- the address
 
@@ -157,7 +151,7 @@ module _ (s : Settings) (d : List ℕ) where
     unfolding setAddress
     address-right v h r g = let w = two-some (capitals d) v (sym e ∙ h) in rw (eq-eqb (length d) 2 l, w .0, w .1, g)
 
-pub ruleset addressing = (answered, address-length, address-letters, address-right, needs)
+pub ruleset addressing = (address-length, address-letters, address-right, needs)
 
 -- ---- the temperature offset
 
@@ -184,7 +178,7 @@ module _ (s : Settings) (d : List ℕ) (b : Bool) (e : b ≡ isSignedDigit d) wh
     unfolding setOffset
     offset-right z k p r g = rw (signed, ← p, g) (ap (λ (x : ℤ). to (withOffset s x)) (toZ-ofZ {w = w8} record { sfits = k }))
 
-pub ruleset offsetting = (answered, offset-other, offset-first, offset-second, offset-digit, offset-right, needs)
+pub ruleset offsetting = (offset-other, offset-first, offset-second, offset-digit, offset-right, needs)
 
 -- ---- the register
 
@@ -199,13 +193,13 @@ module _ (s : Settings) where
   clear-right [] l r g = ap to g
   clear-right (x ∷ d) l r g = absurd (omega arith)
 
-pub ruleset clearing = (answered, clear-excess, clear-right, needs)
+pub ruleset clearing = (clear-excess, clear-right, needs)
 
 -- ---- one of them, by its label
 
 module _ (s : Settings) (l : ℕ) (d : List ℕ) where
   -- k is one of the labels
-  pub set-labelled : (k : ℕ) (r : Done) → l ≡ k → r ≡ changed (setBy s k d) → r ≡ changed (setBy s l d)
+  pub set-labelled : (k : ℕ) (r : Changed) → l ≡ k → r ≡ setBy s k d → r ≡ setBy s l d
   set-labelled k r e h = rw e h
 
   pub set-none : (l ≡ TIME → ⊥) → (l ≡ SPEAKER → ⊥) → (l ≡ FORMAT → ⊥) → (l ≡ ADDRESS → ⊥) → (l ≡ DATE → ⊥) →
@@ -222,7 +216,7 @@ module _ (s : Settings) (l : ℕ) (d : List ℕ) where
         ne-eqb l CLEAR h,
       )
 
-pub ruleset labelled = (answered, set-labelled, set-none, needs)
+pub ruleset labelled = (set-labelled, set-none, needs)
 
 -- ---- E
 
@@ -230,27 +224,31 @@ pub ruleset labelled = (answered, set-labelled, set-none, needs)
 behind-label : (l : ℕ) (d : List ℕ) → take (length (l ∷ d) - 1) (drop 1 (l ∷ d)) ≡ d
 behind-label l d = take-all (length (l ∷ d) - 1) d (omega arith)
 
+-- by the definitions first
 module _ (s : Settings) (m : List ℕ) where
-  -- the settings that are answered are those after the command
-  change-acts : (x : Change) (r : Done) → r ≡ changed x → Acts (change (board s m) x) r m
-  unfolding changed
-  change-acts x r e = acts-refused (x .number) (x .settings) m r e
-
-  pub write-none : (text : List ℕ) (r : Done) → length text ≡ 0 → r ≡ doneAs 22 s 0 → Acts (writeSpecial (board s m) text) r m
+  lists : (text : List ℕ) → (length text ≡ 0 → ⊥) → text ! 0 ≡ CONFIGURATION → configure (board s m) (take (length text - 1) (drop 1 text)) ≡ writeSpecial (board s m) text
   unfolding writeSpecial
-  write-none [] r h e = acts-refused 22 s m r e
-  write-none (l ∷ d) r h e = absurd (omega arith)
+  lists [] h k = absurd (h refl)
+  lists (l ∷ d) h k = rw (k, behind-label l d)
 
-  pub write-lists : (text : List ℕ) (r : Done) (a : List ℕ) → (length text ≡ 0 → ⊥) → text ! 0 ≡ CONFIGURATION →
-      Acts (configure (board s m) (take (length text - 1) (drop 1 text))) r a → Acts (writeSpecial (board s m) text) r a
+  sets : (text : List ℕ) → (length text ≡ 0 → ⊥) → (text ! 0 ≡ CONFIGURATION → ⊥) →
+      change (board s m) (setBy s (text ! 0) (take (length text - 1) (drop 1 text))) ≡ writeSpecial (board s m) text
   unfolding writeSpecial
-  write-lists [] r a h k e = absurd (h refl)
-  write-lists (l ∷ d) r a h k e = rw k (rw (behind-label l d) at e)
+  sets [] h k = absurd (h refl)
+  sets (l ∷ d) h k = rw (ne-eqb l CONFIGURATION k, behind-label l d)
 
-  pub write-sets : (text : List ℕ) (r : Done) → (length text ≡ 0 → ⊥) → (text ! 0 ≡ CONFIGURATION → ⊥) →
-      r ≡ changed (setBy s (text ! 0) (take (length text - 1) (drop 1 text))) → Acts (writeSpecial (board s m) text) r m
+  pub write-none : (text : List ℕ) → length text ≡ 0 → refuse 22 (board s m) ≡ writeSpecial (board s m) text
   unfolding writeSpecial
-  write-sets [] r h k e = absurd (h refl)
-  write-sets (l ∷ d) r h k e = rw (ne-eqb l CONFIGURATION k) (change-acts (setBy s l d) r (rw (behind-label l d) at e))
+  write-none [] h = refl
+  write-none (l ∷ d) h = absurd (omega arith)
+
+  module _ (text : List ℕ) (h : length text ≡ 0 → ⊥) (r : Changed) where
+    pub write-lists : text ! 0 ≡ CONFIGURATION → (a : List ℕ) → changing r a ≡ configure (board s m) (take (length text - 1) (drop 1 text)) →
+        changing r a ≡ writeSpecial (board s m) text
+    write-lists k a e = e ∙ lists text h k
+
+    pub write-sets : (text ! 0 ≡ CONFIGURATION → ⊥) → r ≡ setBy s (text ! 0) (take (length text - 1) (drop 1 text)) →
+        changing r m ≡ writeSpecial (board s m) text
+    write-sets k e = ap (λ (x : Changed). changing x m) e ∙ sets text h k
 
 pub ruleset writing = (write-none, write-lists, write-sets, needs)

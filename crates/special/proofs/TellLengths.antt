@@ -1,4 +1,4 @@
--- How long the replies of special functions are: each fits a buffer of memory plus 64.
+-- How long the replies of special functions are: each fits every buffer that a run takes.
 use Prim.Native.Nat.{ℕ, zero, suc, _+_, _≤_}
 use mathlib.Core.List.{List}
 use native.Mathlib.Omega.{arith}
@@ -10,9 +10,9 @@ use Rattle.octets.specs.Bytes.{E}
 use Rattle.octets.proofs.Tests.{choice}
 use Rattle.board.specs.Settings.{ON}
 use Rattle.board.specs.Files.{sizeOf, filesOf, heads}
-use Rattle.effects.specs.Reply.{replyOf}
-use Rattle.effects.specs.Effects.{Board}
-use Rattle.effects.proofs.ReplyLengths.{reply-length}
+use Rattle.board.specs.Board.{Board}
+use Rattle.effects.specs.Reply.{replyOf, replyRoom}
+use Rattle.effects.proofs.ReplyLengths.{reply-length, room-least}
 use Rattle.special.specs.Special.{TIME, SPEAKER, FORMAT, DATE, CONFIGURATION, ERRORS, tellSpeaker, tellPool, tell, tellTime, tellDate}
 
 -- the records of memory are no longer than memory
@@ -37,5 +37,5 @@ tell-length b label =
     P l = length l ≤ length (b .memory) + 31
 
 -- the reply of a special function fits
-pub told-fits : (b : Board) (label : ℕ) → length (replyOf E label (tell b label)) ≤ length (b .memory) + 64
-told-fits b label = rw reply-length (omega (arith, tell-length b label))
+pub told-fits : (b : Board) (label : ℕ) → length (replyOf E label (tell b label)) ≤ replyRoom (b .memory)
+told-fits b label = rw reply-length (omega (arith, tell-length b label, room-least (b .memory)))

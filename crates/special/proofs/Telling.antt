@@ -27,15 +27,16 @@ use Rattle.board.specs.declared.Settings.{Settings}
 use Rattle.board.proofs.Ranges.{range, month-most, day-most, year-most}
 use Rattle.board.proofs.Walking.{Standing, room, stand-start, stand-next, standing}
 use Rattle.board.proofs.Inside.{sound-ranged, sound-held, sound-least, sound-most, sound-unused, heads-step, heads-none}
-use Rattle.effects.specs.Reply.{replyOf}
-use Rattle.effects.specs.Effects.{Board, board, replied, refuse}
+use Rattle.board.specs.Board.{Board, board, withSettings}
+use Rattle.effects.specs.Reply.{replyOf, replyRoom}
+use Rattle.effects.specs.Effects.{replied, refuse}
 use Rattle.special.specs.Special.{TIME, SPEAKER, POOL, CONFIGURATION, FORMAT, DATE, ERRORS}
 use Rattle.special.specs.Special.{tellTime, tellDate, tellSpeaker, tellPool, isTold, tell, afterTold, readSpecial}
-use Rattle.effects.specs.InnerLeaving.{doneAs, Replied, Told, Tells, Ready}
+use Rattle.effects.specs.InnerLeaving.{doneAs, Replied, Told, leftAs, leaving, Ready}
 use Rattle.effects.specs.declared.Done.{Done}
-use Rattle.effects.proofs.ReplyLengths.{reply-length}
+use Rattle.effects.proofs.ReplyLengths.{reply-length, room-least}
 use Rattle.special.proofs.TellLengths.{told-fits}
-use Rattle.effects.proofs.Outcomes.{tells-refused, tells-replied}
+use Rattle.effects.proofs.Outcomes.{left-quiet, left-replied}
 
 -- ---- labels that are told
 
@@ -81,19 +82,19 @@ pub ruleset listed = (told-key, told-first, told-second, told-below, told-betwee
 
 -- ---- a board that is ready
 
-module _ {s : Settings} {m out : List ℕ} (g : Ready s m out) where
+module _ {s : Settings} {m out : List ℕ} (g : Ready (board s m) out) where
   pub ready-ranged : inRange s ≡ true
-  ready-ranged = sound-ranged s m (g .sound)
+  ready-ranged = sound-ranged (board s m) (g .sound)
 
   pub ready-held : holdsFiles (s .files) m ≡ true
-  ready-held = sound-held s m (g .sound)
+  ready-held = sound-held (board s m) (g .sound)
 
   pub ready-room : 128 ≤ length out
-  ready-room = omega (arith, sound-least s m (g .sound), g .room)
+  ready-room = omega (arith, sound-least (board s m) (g .sound), g .room, room-least m)
 
   -- what memory holds is told in four digits
   pub total-fits : Fits w16 (length m)
-  total-fits = record { fits = omega (arith, sound-most s m (g .sound)) }
+  total-fits = record { fits = omega (arith, sound-most (board s m) (g .sound)) }
 
 -- ---- the time and the date
 
@@ -156,34 +157,33 @@ pub ruleset speaker = (character-on, character-off, speaker-put, needs)
 
 -- ---- the pool
 
-pub pool-put : (s : Settings) (m out a b c : List ℕ) → Ready s m out →
-    a ≡ splice out 27 (inHex4 (length m)) → b ≡ splice a 31 (COMMA ∷ []) → c ≡ splice b 32 (inHex4 (s .unused)) →
-    Told out (tellPool (board s m)) c 9
-unfolding tellPool inHex4
-pool-put s m out a b c g p q r =
-    let h = ready-room g in
-    let x = inHex4 (length m) in
+pub pool-put : (total unused : ℕ) (out a b c : List ℕ) → 128 ≤ length out →
+    a ≡ splice out 27 (inHex4 total) → b ≡ splice a 31 (COMMA ∷ []) → c ≡ splice b 32 (inHex4 unused) →
+    Told out (inHex4 total ++ (COMMA ∷ inHex4 unused)) c 9
+unfolding inHex4
+pool-put total unused out a b c h p q r =
+    let x = inHex4 total in
     let y : List ℕ = COMMA ∷ [] in
-    let z = inHex4 (s .unused) in
+    let z = inHex4 unused in
     record {
       stored = r ∙ rw (q, p, splice-next out 27 x y 31 (omega arith) refl) (splice-next out 27 (x ++ y) z 32 (omega arith) refl);
       long = refl;
     }
 
-pub ruleset pool = (ready-room, total-fits, pool-put, needs)
+pub ruleset pool = (pool-put, needs)
 
 -- request 3, "The reply must not change.": on a sound board it is told what the records add up to
-pub pool-unchanged : (s : Settings) (m : List ℕ) → sound s m ≡ true →
-    tellPool (board s m) ≡ inHex4 (length m) ++ (COMMA ∷ inHex4 (unused (s .files) m))
+pub pool-unchanged : (b : Board) → sound b ≡ true →
+    tellPool b ≡ inHex4 (length (b .memory)) ++ (COMMA ∷ inHex4 (unused (b .settings .files) (b .memory)))
 unfolding tellPool
-pool-unchanged s m e = rw (sound-unused s m e)
+pool-unchanged b e = rw (sound-unused b e)
 
 -- ---- the records
 
 -- so far told stands in the buffer, and what is left of memory makes up the rest
 pub record Gathering (m : List ℕ) (n : ℕ) (out out′ : List ℕ) (at place left : ℕ) : Type 0 where
   pub stands : Standing m at left
-  pub room : length m + 64 ≤ length out
+  pub room : replyRoom m ≤ length out
   pub told : List ℕ
   pub stored : out′ ≡ splice out 27 told
   pub ends : place ≡ 27 + length told
@@ -191,7 +191,7 @@ pub record Gathering (m : List ℕ) (n : ℕ) (out out′ : List ℕ) (at place 
   pub long : length out′ ≡ length out
   pub rest : told ++ heads (filesOf left (drop at m)) ≡ heads (filesOf n m)
 
-pub gather-start : (m : List ℕ) (n : ℕ) (out : List ℕ) → holdsFiles n m ≡ true → length m + 64 ≤ length out → Gathering m n out out 0 27 n
+pub gather-start : (m : List ℕ) (n : ℕ) (out : List ℕ) → holdsFiles n m ≡ true → replyRoom m ≤ length out → Gathering m n out out 0 27 n
 gather-start m n out e h =
     record {
       stands = stand-start m n e;
@@ -218,7 +218,7 @@ module _ {m : List ℕ} {n : ℕ} {out out′ : List ℕ} {at place left : ℕ} 
     pub gather-room : place + length (take (at + 11 - at) (drop at m)) ≤ length out′
     gather-room =
         let z : at + 11 - at ≡ 11 = omega arith in
-        rw (z, record-long) (omega (arith, inside, g))
+        rw (z, record-long) (omega (arith, inside, g, room-least m))
 
     pub gather-next : (long : ℕ) (a : List ℕ) → long ≡ 11 + sizeOf (drop at m) → a ≡ splice out′ place (take (at + 11 - at) (drop at m)) →
         Gathering m n out a (at + long) (place + 11) (left - 1)
@@ -226,7 +226,7 @@ module _ {m : List ℕ} {n : ℕ} {out out′ : List ℕ} {at place left : ℕ} 
         let z : at + 11 - at ≡ 11 = omega arith in
         let r : List ℕ = take 11 (drop at m) in
         let t = g .told in
-        let i : 27 + length t ≤ length out = omega (arith, inside, g) in
+        let i : 27 + length t ≤ length out = omega (arith, inside, g, room-least m) in
         let s : a ≡ splice out 27 (t ++ r) = q ∙ rw (z, g .stored) (splice-next out 27 t r place i (g .ends)) in
         record {
           stands = stand-next (g .stands) p long e;
@@ -235,7 +235,7 @@ module _ {m : List ℕ} {n : ℕ} {out out′ : List ℕ} {at place left : ℕ} 
           stored = s;
           ends = rw (length-append, record-long) (omega (arith, g .ends));
           few = rw (length-append, record-long) (omega (arith, g .few));
-          long = rw (s, length-splice out 27 (t ++ r) (rw (length-append, record-long) (omega (arith, inside, g))));
+          long = rw (s, length-splice out 27 (t ++ r) (rw (length-append, record-long) (omega (arith, inside, g, room-least m))));
           rest = rw (e, append-assoc t r _) (ap (λ l. t ++ l) (sym (heads-step m at left p)) ∙ g .rest);
         }
 
@@ -274,12 +274,12 @@ module _ (s : Settings) (m : List ℕ) (l : ℕ) (out a : List ℕ) (k : ℕ) wh
   tell-errors e t = rw e t
 
   pub tell-pool : (l ≡ TIME → ⊥) → (l ≡ SPEAKER → ⊥) → (l ≡ CONFIGURATION → ⊥) → (l ≡ FORMAT → ⊥) → (l ≡ ERRORS → ⊥) → (l ≡ DATE → ⊥) →
-      Told out (tellPool (board s m)) a k → Told out (tell (board s m) l) a k
-  unfolding tell
+      Told out (inHex4 (length m) ++ (COMMA ∷ inHex4 (s .unused))) a k → Told out (tell (board s m) l) a k
+  unfolding tell tellPool
   tell-pool f g h i n j t =
       rw (ne-eqb l TIME f, ne-eqb l SPEAKER g, ne-eqb l FORMAT i, ne-eqb l DATE j, ne-eqb l CONFIGURATION h, ne-eqb l ERRORS n) t
 
-pub ruleset telling = (ready-ranged, ready-held, ready-room, tell-time, tell-speaker, tell-format, tell-date, tell-records, tell-errors, tell-pool, needs)
+pub ruleset telling = (ready-ranged, ready-held, ready-room, total-fits, tell-time, tell-speaker, tell-format, tell-date, tell-records, tell-errors, tell-pool, needs)
 
 -- ---- the settings once it is told
 
@@ -292,11 +292,6 @@ module _ (s : Settings) (l : ℕ) where
   unfolding afterTold
   told-left n = rw (ne-eqb l ERRORS n)
 
-  -- the register alone is another
-  told-same : afterTold s l ≡ withErrors s (afterTold s l .errors)
-  unfolding afterTold
-  told-same = choice (λ (t : Settings). t ≡ withErrors s (t .errors)) (l is ERRORS) (λ e. refl) (λ e. refl)
-
 pub ruleset behind = (told-cleared, told-left, needs)
 
 -- ---- F
@@ -304,19 +299,24 @@ pub ruleset behind = (told-cleared, told-left, needs)
 -- by its label, if there is one
 read-some : (b : Board) (text : List ℕ) → (length text ≡ 0 → ⊥) → readSpecial b text ≡
     (if not (isTold (text ! 0)) then refuse 21 b else if length text isn't 1 then refuse 22 b
-    else replied (board (afterTold (b .settings) (text ! 0)) (b .memory)) (replyOf E (text ! 0) (tell b (text ! 0))))
+    else replied (withSettings b (afterTold (b .settings) (text ! 0))) (replyOf E (text ! 0) (tell b (text ! 0))))
 unfolding readSpecial
 read-some b [] h = absurd (h refl)
 read-some b (l ∷ []) h = refl
 read-some b (l ∷ x ∷ d) h = rw (ne-eqb (length (l ∷ x ∷ d)) 1 (λ e. omega arith))
 
 module _ (s : Settings) (m out : List ℕ) where
-  pub read-none : (text : List ℕ) (r : Done) → length text ≡ 0 → r ≡ doneAs 22 s 0 → Tells (board s m) out (readSpecial (board s m) text) r out
-  unfolding readSpecial
-  read-none [] r h e = tells-refused 22 s m r e out
-  read-none (l ∷ d) r h e = absurd (omega arith)
+  -- refused, the buffer is as it was
+  refused : (n : ℕ) (text : List ℕ) → readSpecial (board s m) text ≡ refuse n (board s m) → (r : Done) → r ≡ doneAs n s 0 →
+      leftAs r m out ≡ leaving out (readSpecial (board s m) text)
+  refused n text e r q = ap (λ (x : Done). leftAs x m out) q ∙ left-quiet out (readSpecial (board s m) text) n (board s m) (sym e)
 
-  module _ (l : ℕ) (g : Ready s m out) where
+  pub read-none : (text : List ℕ) → length text ≡ 0 → (r : Done) → r ≡ doneAs 22 s 0 → leftAs r m out ≡ leaving out (readSpecial (board s m) text)
+  unfolding readSpecial
+  read-none [] h = refused 22 [] refl
+  read-none (l ∷ d) h = absurd (omega arith)
+
+  module _ (l : ℕ) (g : Ready (board s m) out) where
     fits : 33 + length (tell (board s m) l) ≤ length out
     fits = omega (arith, told-fits (board s m) l, reply-length E l (tell (board s m) l), g .room)
 
@@ -325,25 +325,26 @@ module _ (s : Settings) (m out : List ℕ) where
     read-room a n t = rw (t .stored, length-splice out 27 (tell (board s m) l) (omega (arith, fits))) (omega (arith, fits, t .long))
 
     replied-told : (a c : List ℕ) (n k : ℕ) → Told out (tell (board s m) l) a n → Replied a E l (take n (drop 27 a)) c k →
-        Tells (board s m) out (replied (board (afterTold s l) m) (replyOf E l (tell (board s m) l))) (doneAs 0 (afterTold s l) k) c
+        leftAs (doneAs 0 (afterTold s l) k) m c ≡ leaving out (replied (board (afterTold s l) m) (replyOf E l (tell (board s m) l)))
     replied-told a c n k t y =
         let d = tell (board s m) l in
         let i : 27 + length d ≤ length out = omega (arith, fits) in
         let z : take n (drop 27 a) ≡ d = rw (t .long, t .stored) (splice-in out 27 d i) in
-        tells-replied s (afterTold s l) (told-same s l) m out (replyOf E l d) c k
+        left-replied out (board (afterTold s l) m) (replyOf E l d) c k
         (y .stored ∙ rw (z, t .stored) (overlay-covers out 27 d (replyOf E l d) i (rw reply-length (omega arith))))
         (y .long ∙ ap (λ x. length (replyOf E l x)) z)
 
   module _ (text : List ℕ) (h : length text ≡ 0 → ⊥) (b : Bool) (f : b ≡ isTold (text ! 0)) where
-    pub read-unknown : (r : Done) → not b ≡ true → r ≡ doneAs 21 s 0 → Tells (board s m) out (readSpecial (board s m) text) r out
-    read-unknown r n e = rw (read-some (board s m) text h, ← f, not-true b n) (tells-refused 21 s m r e out)
+    pub read-unknown : not b ≡ true → (r : Done) → r ≡ doneAs 21 s 0 → leftAs r m out ≡ leaving out (readSpecial (board s m) text)
+    read-unknown n = refused 21 text (read-some (board s m) text h ∙ rw (← f, not-true b n))
 
     module _ (n : not b ≡ false) where
-      pub read-long : (r : Done) → (length text ≡ 1 → ⊥) → r ≡ doneAs 22 s 0 → Tells (board s m) out (readSpecial (board s m) text) r out
-      read-long r k e = rw (read-some (board s m) text h, ← f, not-false b n, ne-eqb (length text) 1 k) (tells-refused 22 s m r e out)
+      pub read-long : (length text ≡ 1 → ⊥) → (r : Done) → r ≡ doneAs 22 s 0 → leftAs r m out ≡ leaving out (readSpecial (board s m) text)
+      read-long k = refused 22 text (read-some (board s m) text h ∙ rw (← f, not-false b n, ne-eqb (length text) 1 k))
 
-      pub read-told : (a c : List ℕ) (i k : ℕ) (x : Settings) → x ≡ afterTold s (text ! 0) → length text ≡ 1 → Ready s m out → Told out (tell (board s m) (text ! 0)) a i →
-          Replied a E (text ! 0) (take i (drop 27 a)) c k → Tells (board s m) out (readSpecial (board s m) text) (doneAs 0 x k) c
+      pub read-told : (a c : List ℕ) (i k : ℕ) (x : Settings) → x ≡ afterTold s (text ! 0) → length text ≡ 1 → Ready (board s m) out →
+          Told out (tell (board s m) (text ! 0)) a i → Replied a E (text ! 0) (take i (drop 27 a)) c k →
+          leftAs (doneAs 0 x k) m c ≡ leaving out (readSpecial (board s m) text)
       read-told a c i k x q l g t y =
           rw (read-some (board s m) text h, ← f, not-false b n, eq-eqb (length text) 1 l, q) (replied-told (text ! 0) g a c i k t y)
 

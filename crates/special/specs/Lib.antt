@@ -1,4 +1,3 @@
 -- The special functions.
 pub mod Configuration
 pub mod Special
-pub mod InnerChanging

@@ -10,11 +10,13 @@ use Rattle.octets.specs.Decimal.{isDecimal, decimal2, inDecimal2}
 use Rattle.octets.specs.Bytes.{COMMA, ZERO, E, F}
 use Rattle.temperature.specs.Offset.{isSignedDigit, signedDigit}
 use Rattle.board.specs.Settings.{FORMAT-S, FORMAT-M, OFF, ON, inDate, withTime, withDate, withFormat, withSpeaker, withAddress, withOffset, cleared}
-use Rattle.board.specs.Files.{filesOf, heads}
-use Rattle.effects.specs.Reply.{replyOf}
-use Rattle.effects.specs.Effects.{Board, board, Effect, replied, refuse}
-use Rattle.special.specs.Configuration.{configure}
+use Rattle.board.specs.Files.{heads}
+use Rattle.board.specs.Board.{Board, withSettings, filesOn}
 use Rattle.board.specs.declared.Settings.{Settings}
+use Rattle.effects.specs.Reply.{replyOf}
+use Rattle.effects.specs.Effects.{Effect, effect, replied, refuse}
+use Rattle.effects.specs.declared.Changed.{Changed}
+use Rattle.special.specs.Configuration.{configure}
 
 -- label 20H
 abbrev pub TIME : ℕ
@@ -56,57 +58,52 @@ DATE = 0x3B
 abbrev pub OFFSET : ℕ
 OFFSET = 0x54
 
--- what a special function makes of the settings: its number, and the settings after it
-pub record Change : Type 0 where
-  pub number : ℕ
-  pub settings : Settings
-
--- done, with these
-abbrev pub to : Settings → Change
+-- what a special function makes of the settings is its number, and the settings after it: done, with these
+abbrev pub to : Settings → Changed
 to s = record { number = 0; settings = s }
 
 -- refused, with those that were: 22 "data missing, in excess, or malformed", 21 "unknown .. function label"
-abbrev pub malformed : Settings → Change
+abbrev pub malformed : Settings → Changed
 malformed s = record { number = 22; settings = s }
 
-abbrev pub unknown : Settings → Change
+abbrev pub unknown : Settings → Changed
 unknown s = record { number = 21; settings = s }
 
 -- "four digits HhMm, 00:00 to 23:59"
-unfoldable pub setTime : Settings → List ℕ → Change
+unfoldable pub setTime : Settings → List ℕ → Changed
 setTime s d =
     if length d is 4 && (all isDecimal d && (decimal2 d ≤? 23 && decimal2 (drop 2 d) ≤? 59))
     then to (withTime s (decimal2 d) (decimal2 (drop 2 d)))
     else malformed s
 
 -- ""00" speaker on, "FF" off"
-unfoldable pub setSpeaker : Settings → List ℕ → Change
+unfoldable pub setSpeaker : Settings → List ℕ → Changed
 setSpeaker s d =
     if length d is 2 && (d ! 0 is ZERO && d ! 1 is ZERO) then to (withSpeaker s ON)
     else if length d is 2 && (d ! 0 is F && d ! 1 is F) then to (withSpeaker s OFF)
     else malformed s
 
 -- ""S" or "M""
-unfoldable pub setFormat : Settings → List ℕ → Change
+unfoldable pub setFormat : Settings → List ℕ → Changed
 setFormat s d = if length d is 1 && (d ! 0 is FORMAT-S || d ! 0 is FORMAT-M) then to (withFormat s (d ! 0)) else malformed s
 
 -- "six digits MmDdYy"; request 1, of a date that does not exist: "A date that breaks this is malformed."
-unfoldable pub setDate : Settings → List ℕ → Change
+unfoldable pub setDate : Settings → List ℕ → Changed
 setDate s d =
     if length d is 6 && (all isDecimal d && inDate (decimal2 d) (decimal2 (drop 2 d)) (decimal2 (drop 4 d)))
     then to (withDate s (decimal2 d) (decimal2 (drop 2 d)) (decimal2 (drop 4 d)))
     else malformed s
 
 -- "two hex digits, the serial address from the next frame on"
-unfoldable pub setAddress : Settings → List ℕ → Change
+unfoldable pub setAddress : Settings → List ℕ → Changed
 setAddress s d = if length d is 2 && isCarried2 d then to (withAddress s (carried2 d)) else malformed s
 
 -- request 9, Set Temperature Offset: "a sign and one digit 0 to 9, so -9 to 9, on every type"
-unfoldable pub setOffset : Settings → List ℕ → Change
+unfoldable pub setOffset : Settings → List ℕ → Changed
 setOffset s d = if isSignedDigit d then to (withOffset s (signedDigit (d ! 0) (d ! 1))) else malformed s
 
 -- request 10, Clear Serial Error Status Register: "22 for data in excess"
-unfoldable pub clearErrors : Settings → List ℕ → Change
+unfoldable pub clearErrors : Settings → List ℕ → Changed
 clearErrors s d = if none d then to (cleared s) else malformed s
 
 -- a command to set the serial address, right or not
@@ -114,7 +111,7 @@ abbrev pub setsAddress : ℕ → List ℕ → Bool
 setsAddress c d = c is E && d ! 0 is ADDRESS
 
 -- E, but for "$"
-unfoldable pub setBy : Settings → ℕ → List ℕ → Change
+unfoldable pub setBy : Settings → ℕ → List ℕ → Changed
 setBy s label d =
     if label is TIME then setTime s d
     else if label is SPEAKER then setSpeaker s d
@@ -126,8 +123,8 @@ setBy s label d =
     else unknown s
 
 -- what the board is then: its memory stays
-abbrev pub change : Board → Change → Effect
-change b c = record { number = c .number; after = board (c .settings) (b .memory); reply = [] }
+abbrev pub change : Board → Changed → Effect
+change b c = effect (c .number) (withSettings b (c .settings)) []
 
 -- E: "a known command without its label is 22"
 unfoldable pub writeSpecial : Board → List ℕ → Effect
@@ -161,7 +158,7 @@ tell b label =
     else if label is SPEAKER then tellSpeaker (b .settings)
     else if label is FORMAT then b .settings .format ∷ []
     else if label is DATE then tellDate (b .settings)
-    else if label is CONFIGURATION then heads (filesOf (b .settings .files) (b .memory))
+    else if label is CONFIGURATION then heads (filesOn b)
     else if label is ERRORS then b .settings .errors ∷ []
     else tellPool b
 
@@ -176,4 +173,4 @@ readSpecial b [] = refuse 22 b
 readSpecial b (label ∷ d) =
     if not (isTold label) then refuse 21 b
     else if not (none d) then refuse 22 b
-    else replied (board (afterTold (b .settings) label) (b .memory)) (replyOf E label (tell b label))
+    else replied (withSettings b (afterTold (b .settings) label)) (replyOf E label (tell b label))

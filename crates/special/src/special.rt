@@ -13,6 +13,7 @@ use buffers::decimal::all_decimal;
 use buffers::decimal::decimal_at;
 use buffers::decimal::put_decimal;
 use buffers::hex::put_four;
+use effects::Changed;
 use effects::Done;
 use effects::numbers::MALFORMED;
 use effects::numbers::UNKNOWN;
@@ -32,16 +33,17 @@ ghost use mathlib.Core.Path.{_≡_};
 ghost use mathlib.Core.Bool.{true};
 ghost use Prim.Native.Nat.{_+_, _≤_};
 ghost use lib.ListN.{length};
-ghost use mathlib.Core.List.{[], _∷_};
+ghost use mathlib.Core.List.{[], _∷_, _++_};
 ghost use Rattle.octets.specs.Choice.{if_then_else_, _is_};
-ghost use Rattle.octets.specs.Bytes.{ZERO, F};
+ghost use Rattle.octets.specs.Hex.{inHex4};
+ghost use Rattle.octets.specs.Bytes.{COMMA, ZERO, F};
 ghost use Rattle.board.specs.Settings.{ON, inRange};
 ghost use Rattle.board.specs.Files.{filesOf, heads};
 ghost use Rattle.board.specs.Soundness.{holdsFiles, sound};
-ghost use Rattle.effects.specs.Effects.{board};
-ghost use Rattle.special.specs.Special.{setTime, setSpeaker, setFormat, setDate, setAddress, setOffset, clearErrors, setBy, writeSpecial, tellTime, tellDate, tellSpeaker, tellPool, isTold, tell, afterTold, readSpecial};
-ghost use Rattle.special.specs.InnerChanging.{changed};
-ghost use Rattle.effects.specs.InnerLeaving.{Told, Acts, Tells, Ready};
+ghost use Rattle.board.specs.Board.{board};
+ghost use Rattle.effects.specs.Reply.{replyRoom};
+ghost use Rattle.special.specs.Special.{setTime, setSpeaker, setFormat, setDate, setAddress, setOffset, clearErrors, setBy, writeSpecial, tellTime, tellDate, tellSpeaker, isTold, tell, afterTold, readSpecial};
+ghost use Rattle.effects.specs.InnerLeaving.{Told, changing, leftAs, leaving, Ready};
 
 // the function labels
 const TIME: u8 = 0x20;
@@ -65,108 +67,171 @@ const DATE: u8 = 0x3B;
 const OFFSET: u8 = 0x54;
 
 // "four digits HhMm, 00:00 to 23:59"
-fn set_time(s: Settings, d: &[u8]) -> Done
-    ensures { λ r. ⌜ r ≡ changed (setTime s (now (d .entry))) ⌝ }
+fn set_time(s: Settings, d: &[u8]) -> Changed
+    ensures { λ r. ⌜ r ≡ setTime s (now (d .entry)) ⌝ }
 {
     if d.len() != 4 {
-        return quiet(s, MALFORMED);
+        return Changed {
+            number: MALFORMED,
+            settings: s,
+        };
     }
     if !all_decimal(d) {
-        return quiet(s, MALFORMED);
+        return Changed {
+            number: MALFORMED,
+            settings: s,
+        };
     }
     let hour = decimal_at(d, 0);
     let minute = decimal_at(d, 2);
     if !in_time(hour, minute) {
-        return quiet(s, MALFORMED);
+        return Changed {
+            number: MALFORMED,
+            settings: s,
+        };
     }
-    quiet(s.with_time(hour, minute), 0)
+    Changed {
+        number: 0,
+        settings: s.with_time(hour, minute),
+    }
 }
 
 // ""00" speaker on, "FF" off"
-fn set_speaker(s: Settings, d: &[u8]) -> Done
-    ensures { λ r. ⌜ r ≡ changed (setSpeaker s (now (d .entry))) ⌝ }
+fn set_speaker(s: Settings, d: &[u8]) -> Changed
+    ensures { λ r. ⌜ r ≡ setSpeaker s (now (d .entry)) ⌝ }
 {
     let on = [ZERO, ZERO];
     if same(d, &on) {
-        return quiet(s.with_speaker(ON), 0);
+        return Changed {
+            number: 0,
+            settings: s.with_speaker(ON),
+        };
     }
     let off = [F, F];
     if same(d, &off) {
-        return quiet(s.with_speaker(OFF), 0);
+        return Changed {
+            number: 0,
+            settings: s.with_speaker(OFF),
+        };
     }
-    quiet(s, MALFORMED)
+    Changed {
+        number: MALFORMED,
+        settings: s,
+    }
 }
 
 // ""S" or "M""
-fn set_format(s: Settings, d: &[u8]) -> Done
-    ensures { λ r. ⌜ r ≡ changed (setFormat s (now (d .entry))) ⌝ }
+fn set_format(s: Settings, d: &[u8]) -> Changed
+    ensures { λ r. ⌜ r ≡ setFormat s (now (d .entry)) ⌝ }
 {
     if d.len() != 1 {
-        return quiet(s, MALFORMED);
+        return Changed {
+            number: MALFORMED,
+            settings: s,
+        };
     }
     let format = d[0];
     if !is_format(format) {
-        return quiet(s, MALFORMED);
+        return Changed {
+            number: MALFORMED,
+            settings: s,
+        };
     }
-    quiet(s.with_format(format), 0)
+    Changed {
+        number: 0,
+        settings: s.with_format(format),
+    }
 }
 
 // "six digits MmDdYy"; request 1, of a date that does not exist: "A date that breaks this is malformed."
-fn set_date(s: Settings, d: &[u8]) -> Done
-    ensures { λ r. ⌜ r ≡ changed (setDate s (now (d .entry))) ⌝ }
+fn set_date(s: Settings, d: &[u8]) -> Changed
+    ensures { λ r. ⌜ r ≡ setDate s (now (d .entry)) ⌝ }
 {
     if d.len() != 6 {
-        return quiet(s, MALFORMED);
+        return Changed {
+            number: MALFORMED,
+            settings: s,
+        };
     }
     if !all_decimal(d) {
-        return quiet(s, MALFORMED);
+        return Changed {
+            number: MALFORMED,
+            settings: s,
+        };
     }
     let month = decimal_at(d, 0);
     let day = decimal_at(d, 2);
     let year = decimal_at(d, 4);
     if !in_date(month, day, year) {
-        return quiet(s, MALFORMED);
+        return Changed {
+            number: MALFORMED,
+            settings: s,
+        };
     }
-    quiet(s.with_date(month, day, year), 0)
+    Changed {
+        number: 0,
+        settings: s.with_date(month, day, year),
+    }
 }
 
 // "two hex digits, the serial address from the next frame on"
-fn set_address(s: Settings, d: &[u8]) -> Done
-    ensures { λ r. ⌜ r ≡ changed (setAddress s (now (d .entry))) ⌝ }
+fn set_address(s: Settings, d: &[u8]) -> Changed
+    ensures { λ r. ⌜ r ≡ setAddress s (now (d .entry)) ⌝ }
 {
     if d.len() != 2 {
-        return quiet(s, MALFORMED);
+        return Changed {
+            number: MALFORMED,
+            settings: s,
+        };
     }
     match carried_two_at(d, 0) {
-        Two::Bad => quiet(s, MALFORMED),
-        Two::Value(address) => quiet(s.with_address(address), 0),
+        Two::Bad => Changed {
+            number: MALFORMED,
+            settings: s,
+        },
+        Two::Value(address) => Changed {
+            number: 0,
+            settings: s.with_address(address),
+        },
     }
 }
 
 // Set Temperature Offset: "a sign and one digit 0 to 9".
-fn set_offset(s: Settings, d: &[u8]) -> Done
-    ensures { λ r. ⌜ r ≡ changed (setOffset s (now (d .entry))) ⌝ }
+fn set_offset(s: Settings, d: &[u8]) -> Changed
+    ensures { λ r. ⌜ r ≡ setOffset s (now (d .entry)) ⌝ }
 {
     if !is_signed_digit(d) {
-        return quiet(s, MALFORMED);
+        return Changed {
+            number: MALFORMED,
+            settings: s,
+        };
     }
     let offset = signed_digit(d[0], d[1]);
-    quiet(s.with_offset(offset), 0)
+    Changed {
+        number: 0,
+        settings: s.with_offset(offset),
+    }
 }
 
 // Clear Serial Error Status Register: without data.
-fn clear_errors(s: Settings, d: &[u8]) -> Done
-    ensures { λ r. ⌜ r ≡ changed (clearErrors s (now (d .entry))) ⌝ }
+fn clear_errors(s: Settings, d: &[u8]) -> Changed
+    ensures { λ r. ⌜ r ≡ clearErrors s (now (d .entry)) ⌝ }
 {
     if d.len() != 0 {
-        return quiet(s, MALFORMED);
+        return Changed {
+            number: MALFORMED,
+            settings: s,
+        };
     }
-    quiet(s.cleared(), 0)
+    Changed {
+        number: 0,
+        settings: s.cleared(),
+    }
 }
 
 // E, but for "$": the settings alone change.
-fn set_by(s: Settings, label: u8, d: &[u8]) -> Done
-    ensures { λ r. ⌜ r ≡ changed (setBy s label (now (d .entry))) ⌝ }
+fn set_by(s: Settings, label: u8, d: &[u8]) -> Changed
+    ensures { λ r. ⌜ r ≡ setBy s label (now (d .entry)) ⌝ }
 {
     match label {
         TIME => set_time(s, d),
@@ -176,17 +241,23 @@ fn set_by(s: Settings, label: u8, d: &[u8]) -> Done
         ADDRESS => set_address(s, d),
         OFFSET => set_offset(s, d),
         CLEAR => clear_errors(s, d),
-        _ => quiet(s, UNKNOWN),
+        _ => Changed {
+            number: UNKNOWN,
+            settings: s,
+        },
     }
 }
 
 // E: "a known command without its label is 22".
-pub fn write_special(s: Settings, m: &mut [u8], text: &[u8]) -> Done
-    requires { ⌜ sound s (now m) ≡ true ⌝ }
-    ensures { λ r. ⌜ Acts (writeSpecial (board s (now (m .entry))) (now (text .entry))) r (now (m .exit)) ⌝ }
+pub fn write_special(s: Settings, m: &mut [u8], text: &[u8]) -> Changed
+    requires { ⌜ sound (board s (now m)) ≡ true ⌝ }
+    ensures { λ r. ⌜ changing r (now (m .exit)) ≡ writeSpecial (board s (now (m .entry))) (now (text .entry)) ⌝ }
 {
     if text.len() == 0 {
-        return quiet(s, MALFORMED);
+        return Changed {
+            number: MALFORMED,
+            settings: s,
+        };
     }
     let label = text[0];
     if label == CONFIGURATION {
@@ -246,7 +317,7 @@ fn tell_byte(byte: u8, out: &mut [u8]) -> usize
 
 // The records of n files, one after another.
 fn tell_records(m: &[u8], n: usize, out: &mut [u8]) -> usize
-    requires { ⌜ (holdsFiles n (now m) ≡ true) × (length (now m) + 64 ≤ length (now out)) ⌝ }
+    requires { ⌜ (holdsFiles n (now m) ≡ true) × (replyRoom (now m) ≤ length (now out)) ⌝ }
     ensures { λ r. ⌜ Told (now (out .entry)) (heads (filesOf n (now (m .entry)))) (now (out .exit)) r ⌝ }
 {
     let mut at: usize = 0;
@@ -263,14 +334,14 @@ fn tell_records(m: &[u8], n: usize, out: &mut [u8]) -> usize
 }
 
 // ""#" gives POOL,pool, total and unused, four hex digits each"; no record is looked at.
-fn tell_pool(s: Settings, m: &[u8], out: &mut [u8]) -> usize
-    requires { ⌜ Ready s (now m) (now out) ⌝ }
-    ensures { λ r. ⌜ Told (now (out .entry)) (tellPool (board s (now (m .entry)))) (now (out .exit)) r ⌝ }
+fn tell_pool(total: u16, unused: u16, out: &mut [u8]) -> usize
+    requires { ⌜ 128 ≤ length (now out) ⌝ }
+    ensures { λ r. ⌜ Told (now (out .entry)) (inHex4 total ++ (COMMA ∷ inHex4 unused)) (now (out .exit)) r ⌝ }
 {
-    put_four(out, DATA, m.len() as u16);
+    put_four(out, DATA, total);
     let comma = [COMMA];
     copy_at(out, DATA + 4, &comma);
-    put_four(out, DATA + 5, s.unused);
+    put_four(out, DATA + 5, unused);
     9
 }
 
@@ -286,7 +357,7 @@ fn is_told(label: u8) -> bool
 
 // "Replies use the layouts above".
 fn tell(s: Settings, m: &[u8], label: u8, out: &mut [u8]) -> usize
-    requires { ⌜ Ready s (now m) (now out) ⌝ }
+    requires { ⌜ Ready (board s (now m)) (now out) ⌝ }
     ensures { λ r. ⌜ Told (now (out .entry)) (tell (board s (now (m .entry))) label) (now (out .exit)) r ⌝ }
 {
     match label {
@@ -296,7 +367,7 @@ fn tell(s: Settings, m: &[u8], label: u8, out: &mut [u8]) -> usize
         DATE => tell_date(s, out),
         CONFIGURATION => tell_records(m, s.files as usize, out),
         ERRORS => tell_byte(s.errors, out),
-        _ => tell_pool(s, m, out),
+        _ => tell_pool(m.len() as u16, s.unused, out),
     }
 }
 
@@ -312,8 +383,8 @@ fn after_told(s: Settings, label: u8) -> Settings
 
 // F: "without data".
 pub fn read_special(s: Settings, m: &[u8], text: &[u8], out: &mut [u8]) -> Done
-    requires { ⌜ Ready s (now m) (now out) ⌝ }
-    ensures { λ r. ⌜ Tells (board s (now (m .entry))) (now (out .entry)) (readSpecial (board s (now (m .entry))) (now (text .entry))) r (now (out .exit)) ⌝ }
+    requires { ⌜ Ready (board s (now m)) (now out) ⌝ }
+    ensures { λ r. ⌜ leftAs r (now (m .entry)) (now (out .exit)) ≡ leaving (now (out .entry)) (readSpecial (board s (now (m .entry))) (now (text .entry))) ⌝ }
 {
     if text.len() == 0 {
         return quiet(s, MALFORMED);

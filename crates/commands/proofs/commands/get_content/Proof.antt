@@ -8,9 +8,6 @@ look-up-requires c κs = search gets
 enum-told : tie.Need-enum-told
 enum-told c = search gets
 
-quiet-requires : tie.Need-quiet-requires
-quiet-requires c κs = search gets
-
 enum-known-start : tie.Need-enum-known-start
 enum-known-start c = search gets
 
@@ -47,7 +44,6 @@ get-content-spec =
     (tie.spec
     look-up-requires
     enum-told
-    quiet-requires
     enum-known-start
     add-end
     sub-tell-content

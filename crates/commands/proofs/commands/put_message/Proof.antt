@@ -8,26 +8,17 @@ look-up-requires c κs = search puts
 enum-told : tie.Need-enum-told
 enum-told c = search puts
 
-quiet-requires : tie.Need-quiet-requires
-quiet-requires c κs = search puts
-
 enum-known-start : tie.Need-enum-known-start
 enum-known-start c = search puts
 
 hold-requires : tie.Need-hold-requires
 hold-requires c κs = search puts
 
-quiet-requires-2 : tie.Need-quiet-requires-2
-quiet-requires-2 c κs = search puts
-
 same-length : tie.Need-same-length
 same-length c = search puts
 
 returns : tie.Need-returns
 returns c = search puts
-
-quiet-requires-3 : tie.Need-quiet-requires-3
-quiet-requires-3 c κs = search puts
 
 same-length-2 : tie.Need-same-length-2
 same-length-2 c = search puts
@@ -47,13 +38,10 @@ put-message-spec =
     (tie.spec
     look-up-requires
     enum-told
-    quiet-requires
     enum-known-start
     hold-requires
-    quiet-requires-2
     same-length
     returns
-    quiet-requires-3
     same-length-2
     returns-2
     same-length-3

@@ -2,9 +2,6 @@ use Rattle.commands.proofs.Gets.{gets}
 use Rattle.commands.proofs.commands.read_file.Statement.{statement}
 use Rattle.commands.proofs.commands.read_file.Tie as tie
 
-quiet-requires : tie.Need-quiet-requires
-quiet-requires c κs = search gets
-
 returns : tie.Need-returns
 returns c = search gets
 
@@ -23,10 +20,4 @@ returns-2 c = search gets
 pub read-file-spec : {M : Type 1} → statement M
 read-file-spec =
     tie.close
-    (tie.spec
-    quiet-requires
-    returns
-    shared-slice-read-get-content
-    get-content-requires
-    same-length
-    returns-2)
+    (tie.spec returns shared-slice-read-get-content get-content-requires same-length returns-2)

@@ -2,9 +2,6 @@ use Rattle.commands.proofs.Puts.{puts}
 use Rattle.commands.proofs.commands.write_file.Statement.{statement}
 use Rattle.commands.proofs.commands.write_file.Tie as tie
 
-quiet-requires : tie.Need-quiet-requires
-quiet-requires c κs = search puts
-
 returns : tie.Need-returns
 returns c = search puts
 
@@ -33,7 +30,6 @@ pub write-file-spec : {M : Type 1} → statement M
 write-file-spec =
     tie.close
     (tie.spec
-    quiet-requires
     returns
     shared-slice-read-put-message
     sub-put-message

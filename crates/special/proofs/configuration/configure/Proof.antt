@@ -5,9 +5,6 @@ use Rattle.special.proofs.configuration.configure.Tie as tie
 refusal-requires : tie.Need-refusal-requires
 refusal-requires c κs = search replacing
 
-quiet-requires : tie.Need-quiet-requires
-quiet-requires c κs = search replacing
-
 returns : tie.Need-returns
 returns c = search replacing
 
@@ -20,9 +17,6 @@ cast-with-files c = search replacing
 with-files-requires : tie.Need-with-files-requires
 with-files-requires c κs = search replacing
 
-quiet-requires-2 : tie.Need-quiet-requires-2
-quiet-requires-2 c κs = search replacing
-
 same-length : tie.Need-same-length
 same-length c = search replacing
 
@@ -34,11 +28,9 @@ configure-spec =
     tie.close
     (tie.spec
     refusal-requires
-    quiet-requires
     returns
     lay-requires
     cast-with-files
     with-files-requires
-    quiet-requires-2
     same-length
     returns-2)

@@ -2,9 +2,6 @@ use Rattle.special.proofs.Settles.{addressing}
 use Rattle.special.proofs.special.set_address.Statement.{statement}
 use Rattle.special.proofs.special.set_address.Tie as tie
 
-quiet-requires : tie.Need-quiet-requires
-quiet-requires c κs = search addressing
-
 returns : tie.Need-returns
 returns c = search addressing
 
@@ -14,17 +11,11 @@ carried-two-at-requires c κs = search addressing
 enum-told : tie.Need-enum-told
 enum-told c = search addressing
 
-quiet-requires-2 : tie.Need-quiet-requires-2
-quiet-requires-2 c κs = search addressing
-
 enum-known-address : tie.Need-enum-known-address
 enum-known-address c = search addressing
 
 with-address-requires : tie.Need-with-address-requires
 with-address-requires c κs = search addressing
-
-quiet-requires-3 : tie.Need-quiet-requires-3
-quiet-requires-3 c κs = search addressing
 
 returns-2 : tie.Need-returns-2
 returns-2 c = search addressing
@@ -36,13 +27,10 @@ pub set-address-spec : {M : Type 1} → statement M
 set-address-spec =
     tie.close
     (tie.spec
-    quiet-requires
     returns
     carried-two-at-requires
     enum-told
-    quiet-requires-2
     enum-known-address
     with-address-requires
-    quiet-requires-3
     returns-2
     returns-3)

@@ -24,9 +24,6 @@ set-offset-requires c κs = search labelled
 clear-errors-requires : tie.Need-clear-errors-requires
 clear-errors-requires c κs = search labelled
 
-quiet-requires : tie.Need-quiet-requires
-quiet-requires c κs = search labelled
-
 returns : tie.Need-returns
 unfolding setBy
 returns c = search labelled
@@ -69,7 +66,6 @@ set-by-spec =
     set-address-requires
     set-offset-requires
     clear-errors-requires
-    quiet-requires
     returns
     returns-2
     returns-3

@@ -2,17 +2,11 @@ use Rattle.special.proofs.Settles.{dating}
 use Rattle.special.proofs.special.set_date.Statement.{statement}
 use Rattle.special.proofs.special.set_date.Tie as tie
 
-quiet-requires : tie.Need-quiet-requires
-quiet-requires c κs = search dating
-
 returns : tie.Need-returns
 returns c = search dating
 
 all-decimal-requires : tie.Need-all-decimal-requires
 all-decimal-requires c κs = search dating
-
-quiet-requires-2 : tie.Need-quiet-requires-2
-quiet-requires-2 c κs = search dating
 
 returns-2 : tie.Need-returns-2
 returns-2 c = search dating
@@ -29,17 +23,11 @@ decimal-at-requires-3 c κs = search dating
 in-date-requires : tie.Need-in-date-requires
 in-date-requires c κs = search dating
 
-quiet-requires-3 : tie.Need-quiet-requires-3
-quiet-requires-3 c κs = search dating
-
 returns-3 : tie.Need-returns-3
 returns-3 c = search dating
 
 with-date-requires : tie.Need-with-date-requires
 with-date-requires c κs = search dating
-
-quiet-requires-4 : tie.Need-quiet-requires-4
-quiet-requires-4 c κs = search dating
 
 returns-4 : tie.Need-returns-4
 returns-4 c = search dating
@@ -48,17 +36,13 @@ pub set-date-spec : {M : Type 1} → statement M
 set-date-spec =
     tie.close
     (tie.spec
-    quiet-requires
     returns
     all-decimal-requires
-    quiet-requires-2
     returns-2
     decimal-at-requires
     decimal-at-requires-2
     decimal-at-requires-3
     in-date-requires
-    quiet-requires-3
     returns-3
     with-date-requires
-    quiet-requires-4
     returns-4)

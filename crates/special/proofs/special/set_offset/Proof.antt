@@ -5,9 +5,6 @@ use Rattle.special.proofs.special.set_offset.Tie as tie
 is-signed-digit-requires : tie.Need-is-signed-digit-requires
 is-signed-digit-requires c κs = search offsetting
 
-quiet-requires : tie.Need-quiet-requires
-quiet-requires c κs = search offsetting
-
 returns : tie.Need-returns
 returns c = search offsetting
 
@@ -23,9 +20,6 @@ signed-digit-requires c κs = search offsetting
 with-offset-requires : tie.Need-with-offset-requires
 with-offset-requires c κs = search offsetting
 
-quiet-requires-2 : tie.Need-quiet-requires-2
-quiet-requires-2 c κs = search offsetting
-
 returns-2 : tie.Need-returns-2
 returns-2 c = search offsetting
 
@@ -34,11 +28,9 @@ set-offset-spec =
     tie.close
     (tie.spec
     is-signed-digit-requires
-    quiet-requires
     returns
     shared-slice-read-signed-digit
     shared-slice-read-signed-digit-2
     signed-digit-requires
     with-offset-requires
-    quiet-requires-2
     returns-2)

@@ -11,9 +11,6 @@ same-requires c κs = search speaking
 with-speaker-requires : tie.Need-with-speaker-requires
 with-speaker-requires c κs = search speaking
 
-quiet-requires : tie.Need-quiet-requires
-quiet-requires c κs = search speaking
-
 returns : tie.Need-returns
 returns c = search speaking
 
@@ -26,14 +23,8 @@ same-requires-2 c κs = search speaking
 with-speaker-requires-2 : tie.Need-with-speaker-requires-2
 with-speaker-requires-2 c κs = search speaking
 
-quiet-requires-2 : tie.Need-quiet-requires-2
-quiet-requires-2 c κs = search speaking
-
 returns-2 : tie.Need-returns-2
 returns-2 c = search speaking
-
-quiet-requires-3 : tie.Need-quiet-requires-3
-quiet-requires-3 c κs = search speaking
 
 returns-3 : tie.Need-returns-3
 returns-3 c = search speaking
@@ -45,12 +36,9 @@ set-speaker-spec =
     slice-aggregate-same
     same-requires
     with-speaker-requires
-    quiet-requires
     returns
     slice-aggregate-same-2
     same-requires-2
     with-speaker-requires-2
-    quiet-requires-2
     returns-2
-    quiet-requires-3
     returns-3)

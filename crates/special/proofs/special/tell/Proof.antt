@@ -23,6 +23,9 @@ tell-records-requires c κs = search telling
 tell-byte-requires-2 : tie.Need-tell-byte-requires-2
 tell-byte-requires-2 c κs = search telling
 
+cast-tell-pool : tie.Need-cast-tell-pool
+cast-tell-pool c = search telling
+
 tell-pool-requires : tie.Need-tell-pool-requires
 tell-pool-requires c κs = search telling
 
@@ -79,6 +82,7 @@ tell-spec =
     cast-tell-records
     tell-records-requires
     tell-byte-requires-2
+    cast-tell-pool
     tell-pool-requires
     same-length
     returns

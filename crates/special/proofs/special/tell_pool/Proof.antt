@@ -2,9 +2,6 @@ use Rattle.special.proofs.Telling.{pool}
 use Rattle.special.proofs.special.tell_pool.Statement.{statement}
 use Rattle.special.proofs.special.tell_pool.Tie as tie
 
-cast-put-four : tie.Need-cast-put-four
-cast-put-four c = search pool
-
 put-four-requires : tie.Need-put-four-requires
 put-four-requires c κs = search pool
 
@@ -33,7 +30,6 @@ pub tell-pool-spec : {M : Type 1} → statement M
 tell-pool-spec =
     tie.close
     (tie.spec
-    cast-put-four
     put-four-requires
     add-copy-at
     slice-aggregate-copy-at

@@ -2,9 +2,6 @@ use Rattle.special.proofs.Settles.{writing}
 use Rattle.special.proofs.special.write_special.Statement.{statement}
 use Rattle.special.proofs.special.write_special.Tie as tie
 
-quiet-requires : tie.Need-quiet-requires
-quiet-requires c κs = search writing
-
 returns : tie.Need-returns
 returns c = search writing
 
@@ -48,7 +45,6 @@ pub write-special-spec : {M : Type 1} → statement M
 write-special-spec =
     tie.close
     (tie.spec
-    quiet-requires
     returns
     shared-slice-read-label
     sub-configure
