@@ -10,7 +10,7 @@ use lib.ListN.{length, drop}
 use Rattle.octets.specs.Choice.{_is_, _!_}
 use Rattle.octets.proofs.Counts.{count-one, count-none, counting}
 use Rattle.octets.proofs.Tests.{compare}
-use Rattle.board.specs.Files.{sizeOf}
+use Rattle.board.specs.Files.{taken}
 use Rattle.board.specs.Index.{FIRST-LABEL, LAST-LABEL, ENTRIES, NOWHERE, entry, ofType, lookUp}
 use Rattle.board.specs.InnerNoted.{isPlace, entries, Within}
 use Rattle.board.specs.declared.Found.{Found}
@@ -75,7 +75,7 @@ module _ (m : List ℕ) (place kind : ℕ) where
     unfolding ofType
     type-other h = rw (← e, h)
 
-    pub type-same : b ≡ true → (size : ℕ) → size ≡ sizeOf (drop place m) → At (place + 11) size ≡ ofType m place kind
+    pub type-same : b ≡ true → (size : ℕ) → size ≡ taken (drop place m) → At (place + 11) size ≡ ofType m place kind
     unfolding ofType
     type-same h size f = rw (← e, h, ← f)
 

@@ -12,7 +12,7 @@ use Rattle.octets.specs.Choice.{if_then_else_, _is_, _≤?_, between, _!_, amon
 use Rattle.octets.specs.InnerCounts.{count}
 use Rattle.octets.proofs.Spots.{drop-on}
 use Rattle.octets.proofs.Tests.{by-test, compare, never, split, or-in, or-out-left, or-out-right, and-both, suc-less-one}
-use Rattle.board.specs.Files.{File, sizeOf, filesOf, used, labels, distinct, isAt, find}
+use Rattle.board.specs.Files.{File, taken, filesOf, used, labels, distinct, isAt, find}
 use Rattle.board.specs.Soundness.{isLabel, isRecord, holdsFiles}
 use Rattle.board.specs.Index.{FIRST-LABEL, LAST-LABEL, ENTRIES, NOWHERE, entry, namesEach, namesNoOther, isIndex, noEntries, entered, ofType, lookUp}
 use Rattle.board.specs.InnerNoted.{isPlace, entries, Within}
@@ -161,11 +161,11 @@ unfound (f ∷ fs) label kind place c =
     (unfound fs label kind (place + 11 + length (f .body)) (or-out-right (f .head ! 0 is label) (among label (labels fs)) c))
 
 -- each file has its place, one file on
-pub names-step : (p m : List ℕ) (at n : ℕ) → 0 < n → 11 + sizeOf (drop at m) ≤ length (drop at m) →
+pub names-step : (p m : List ℕ) (at n : ℕ) → 0 < n → 11 + taken (drop at m) ≤ length (drop at m) →
     namesEach p (filesOf n (drop at m)) at ≡ (entry p (m ! at) is at && namesEach p (filesOf (n - 1) (drop (next m at) m)) (next m at))
 unfolding namesEach
 names-step p m at n h r =
-    let z : at + 11 + sizeOf (drop at m) ≡ next m at = omega arith in
+    let z : at + 11 + taken (drop at m) ≡ next m at = omega arith in
     rw (files-step m at n h, head-label m at, body-size m at r, z)
 
 labels-step : (m : List ℕ) (at n : ℕ) → 0 < n → labels (filesOf n (drop at m)) ≡ m ! at ∷ labels (filesOf (n - 1) (drop (next m at) m))
@@ -210,7 +210,7 @@ module _ (p m : List ℕ) (label : ℕ) where
   unfolding filesOf labels among
   sites zero at g e a = never (sym a)
   sites (suc n) at g e a =
-      site at (suc n) (omega arith) g e a (rw (suc-less-one n) (sites n (next m at) (rw (suc-less-one n) at (stand-next g (omega arith) (11 + sizeOf (drop at m)) refl))))
+      site at (suc n) (omega arith) g e a (rw (suc-less-one n) (sites n (next m at) (rw (suc-less-one n) at (stand-next g (omega arith) (11 + taken (drop at m)) refl))))
 
   module _ (n : ℕ) (o : holdsFiles n m ≡ true) (l : length m ≤ 32768) (e : isIndex p (filesOf n m) ≡ true) where
     sited : among label (labels (filesOf n m)) ≡ true → Sited n 0

@@ -4,7 +4,7 @@ use mathlib.Core.Bool.{Bool, true, _&&_, _||_}
 use mathlib.Core.List.{List, [], _∷_}
 use lib.ListN.{length, drop, set, replicate}
 use Rattle.octets.specs.Choice.{if_then_else_, _is_, between, _!_, among}
-use Rattle.board.specs.Files.{File, sizeOf, filesOf, labels}
+use Rattle.board.specs.Files.{File, taken, filesOf, labels}
 use Rattle.board.specs.declared.Found.{Found}
 use Rattle.board.specs.declared.Found.the-variants.{At, Nothing}
 
@@ -34,8 +34,8 @@ namesEach p (f ∷ fs) place = entry p (f .head ! 0) is place && namesEach p fs 
 
 -- "or that there is none": of n labels from one on, the entry of each that no file has
 unfoldable pub namesNoOther : List ℕ → List ℕ → ℕ → ℕ → Bool
-namesNoOther p taken label zero = true
-namesNoOther p taken label (suc n) = (among label taken || entry p label is NOWHERE) && namesNoOther p taken (suc label) n
+namesNoOther p named label zero = true
+namesNoOther p named label (suc n) = (among label named || entry p label is NOWHERE) && namesNoOther p named (suc label) n
 
 -- an index that is true of files
 unfoldable pub isIndex : List ℕ → List File → Bool
@@ -56,7 +56,7 @@ indexOf n m = entered (filesOf n m) 0 noEntries
 
 -- the file at a place, where it is of a type
 unfoldable pub ofType : List ℕ → ℕ → ℕ → Found
-ofType m place kind = if m ! (place + 1) is kind then At (place + 11) (sizeOf (drop place m)) else Nothing
+ofType m place kind = if m ! (place + 1) is kind then At (place + 11) (taken (drop place m)) else Nothing
 
 -- "answer from that": the file of a label and type, by the entry of the label and then the type at that place
 unfoldable pub lookUp : List ℕ → List ℕ → ℕ → ℕ → Found

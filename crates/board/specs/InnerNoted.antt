@@ -8,7 +8,7 @@ use Rattle.octets.specs.Choice.{if_then_else_, _is_, _isn't_}
 use Rattle.octets.specs.InnerCounts.{count}
 use Rattle.octets.specs.declared.hex.Four.{Four}
 use Rattle.octets.specs.declared.hex.Four.the-variants.{Value, Bad}
-use Rattle.board.specs.Files.{sizeOf, filesOf, unused}
+use Rattle.board.specs.Files.{sizeOf, taken, filesOf, unused}
 use Rattle.board.specs.Index.{NOWHERE, entry, namesEach, isIndex}
 use Rattle.board.specs.Soundness.{isSize, isRecord, isFileAt, holdsFiles, soundMemory}
 
@@ -22,7 +22,7 @@ recordOrNone zeroToo r = if isRecord zeroToo r then Value (sizeOf r) else Bad
 
 -- how many bytes the file at the start of r takes, 0 where there is none
 unfoldable pub lengthAt : List ℕ → ℕ
-lengthAt r = if isFileAt r then 11 + sizeOf r else 0
+lengthAt r = if isFileAt r then 11 + taken r else 0
 
 -- an entry that is a place
 unfoldable pub isPlace : ℕ → Bool

@@ -3,7 +3,7 @@ use octets::hex::number_at;
 ghost use mathlib.Core.Path.{_≡_};
 ghost use Prim.Native.Nat.{_+_, _≤_};
 ghost use lib.ListN.{length, drop};
-ghost use Rattle.board.specs.Files.{sizeOf};
+ghost use Rattle.board.specs.Files.{sizeOf, taken};
 
 // "T: "A" TEXT, "B" STRING."
 pub const TEXT: u8 = 0x41;
@@ -29,10 +29,18 @@ pub fn size_at(m: &[u8], at: usize) -> usize
     number_at(m, at + SIZE)
 }
 
-// The bytes that the file at a place takes: "Sizes plus 11 for each".
+// The bytes that the file at a place takes behind its record: "then SIZE bytes of content".
+pub fn taken_at(m: &[u8], at: usize) -> usize
+    requires { ⌜ at ≤ length (now m) ⌝ }
+    ensures { λ r. ⌜ r ≡ taken (drop at (now (m .entry))) ⌝ }
+{
+    size_at(m, at)
+}
+
+// The bytes that it takes with its record: "Sizes plus 11 for each".
 pub fn file_length(m: &[u8], at: usize) -> usize
     requires { ⌜ at ≤ length (now m) ⌝ }
-    ensures { λ r. ⌜ r ≡ 11 + sizeOf (drop at (now (m .entry))) ⌝ }
+    ensures { λ r. ⌜ r ≡ 11 + taken (drop at (now (m .entry))) ⌝ }
 {
-    RECORD + size_at(m, at)
+    RECORD + taken_at(m, at)
 }

@@ -1,7 +1,7 @@
 // Request 7: "Keep, for each label 20H to 7EH, where its record begins or that there is none, and answer from that."
 use crate::Found;
 use crate::files::RECORD;
-use crate::files::size_at;
+use crate::files::taken_at;
 ghost use mathlib.Core.Path.{_≡_};
 ghost use Prim.Native.Nat.{_+_, _-_, _<_, _≤_};
 ghost use lib.ListN.{length, drop};
@@ -76,7 +76,7 @@ fn of_type(m: &[u8], at: usize, kind: u8) -> Found
     ensures { λ r. ⌜ r ≡ ofType (now (m .entry)) at kind ⌝ }
 {
     if is_type(m, at, kind) {
-        return Found::At(at + RECORD, size_at(m, at));
+        return Found::At(at + RECORD, taken_at(m, at));
     }
     Found::Nothing
 }

@@ -13,7 +13,7 @@ use Rattle.octets.specs.Bytes.{isPlain}
 use Rattle.octets.proofs.Tests.{choice, by-test, split}
 use Rattle.octets.proofs.Buffers.{length-zeros}
 use Rattle.board.specs.declared.Found.the-variants.{At, Nothing}
-use Rattle.board.specs.Files.{File, sizeOf, fileAt, filesOf, unused, labels, find, isAt}
+use Rattle.board.specs.Files.{File, taken, fileAt, filesOf, unused, labels, find, isAt}
 use Rattle.board.specs.Index.{entry, namesEach, isIndex}
 use Rattle.board.specs.Soundness.{isContent, holdsFiles, soundMemory}
 use Rattle.board.proofs.Layouts.{layout, AllValid, past, parse, layout-unused, holds, count-files, print, valid, past-zero, past-unused}
@@ -182,15 +182,15 @@ find-room : (l t n : ℕ) (r : List ℕ) (place start size : ℕ) → find l t (
 unfolding find filesOf
 find-room l t zero r place start size e h = absurd (not-found e)
 find-room l t (suc n) r place start size e h =
-    let c = take (sizeOf r) (drop 11 r) in
-    let d = drop (11 + sizeOf r) r in
+    let c = take (taken r) (drop 11 r) in
+    let d = drop (11 + taken r) r in
     by-test (isAt l t (fileAt r .head))
     (λ q.
     let k : At (place + 11) (length c) ≡ At start size = rw q at e in
-    omega (arith, found-start k, found-size k, length-take (sizeOf r) (drop 11 r), length-drop 11 r))
+    omega (arith, found-start k, found-size k, length-take (taken r) (drop 11 r), length-drop 11 r))
     (λ q.
     let k = find-room l t n d (place + 11 + length c) start size (rw q at e) h in
-    omega (arith, k .0, k .1, length-take (sizeOf r) (drop 11 r), length-drop 11 r, length-drop (11 + sizeOf r) r))
+    omega (arith, k .0, k .1, length-take (taken r) (drop 11 r), length-drop 11 r, length-drop (11 + taken r) r))
 
 -- a message leaves memory as long as it was, on any board
 pub holding-length : (l t n : ℕ) (m : List ℕ) (start size : ℕ) (msg : List ℕ) →

@@ -18,6 +18,7 @@ use Rattle.board.specs.Soundness.{isLabel, isKind, isProtection, isSize, isStar
 use Rattle.board.specs.Soundness.{holdsFiles, isMemory, soundMemory}
 use Rattle.board.proofs.Layouts.{layout, AllValid, parse, layout-unused, holds, valid}
 use Rattle.board.proofs.Contents.{zeros-nul, zeros-content}
+use Rattle.board.proofs.Checks.{taken-size}
 use Rattle.board.proofs.SoundParts.{memory-most, whole}
 use Rattle.board.proofs.Indexing.{index-true}
 use Rattle.records.specs.Capitals.{recordCapitals}
@@ -212,7 +213,7 @@ new-valid (suc n) room d r h l =
       record {
         eleven = stored-length d (r .0) v;
         right = stored-record d (r .0) v small (length d is 11) (r .1) (g .fit);
-        sized = stored-size d (r .0) v small ∙ sym (length-zeros v);
+        sized = taken-size (stored v d) ∙ stored-size d (r .0) v small ∙ sym (length-zeros v);
         filled = zeros-content v;
       },
       new-valid n (room - (11 + v)) (drop 11 d) (r .2) (g .more) (omega arith),

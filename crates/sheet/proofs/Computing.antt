@@ -3,7 +3,7 @@ use Rattle.dates.specs.Calendar.{february, monthLength, isDate}
 use Rattle.temperature.specs.Offset.{isSignedDigit, signedDigit, isOffset}
 use Rattle.register.specs.Register.{isRegister}
 use Rattle.board.specs.Settings.{inRange}
-use Rattle.board.specs.Files.{sizeOf, filesOf, heads, used, unused, labels, distinct, isAt, find}
+use Rattle.board.specs.Files.{sizeOf, taken, filesOf, heads, used, unused, labels, distinct, isAt, find}
 use Rattle.board.specs.Index.{entry, namesEach, namesNoOther, isIndex, entered, indexOf}
 use Rattle.board.specs.Soundness.{isLabel, isKind, isProtection, isSize, isStartCode, isStopCode, isCodes, isRecord, isContent, isFileAt, holdsFiles, soundMemory, keepsTrue, sound}
 use Rattle.effects.specs.Reply.{replyOf, replyRoom}
@@ -26,7 +26,7 @@ unfolding
     isSignedDigit signedDigit isOffset
     isRegister
     inRange
-    sizeOf filesOf heads used unused labels distinct isAt find
+    sizeOf taken filesOf heads used unused labels distinct isAt find
     entry namesEach namesNoOther isIndex entered indexOf
     isLabel isKind isProtection isSize isStartCode isStopCode isCodes isRecord isContent isFileAt holdsFiles soundMemory keepsTrue sound
     replyOf replyRoom faultNoted

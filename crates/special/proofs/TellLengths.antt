@@ -9,7 +9,7 @@ use Rattle.octets.specs.Decimal.{inDecimal2}
 use Rattle.octets.specs.Bytes.{E}
 use Rattle.octets.proofs.Tests.{choice}
 use Rattle.board.specs.Settings.{ON}
-use Rattle.board.specs.Files.{sizeOf, filesOf, heads}
+use Rattle.board.specs.Files.{taken, filesOf, heads}
 use Rattle.board.specs.Board.{Board}
 use Rattle.effects.specs.Reply.{replyOf, replyRoom}
 use Rattle.effects.proofs.ReplyLengths.{reply-length, room-least}
@@ -21,7 +21,7 @@ unfolding heads filesOf
 heads-length zero r = omega arith
 heads-length (suc n) r =
     rw (length-append, length-take)
-    (omega (arith, heads-length n (drop (11 + sizeOf r) r), length-drop (11 + sizeOf r) r))
+    (omega (arith, heads-length n (drop (11 + taken r) r), length-drop (11 + taken r) r))
 
 tell-length : (b : Board) (label : ℕ) → length (tell b label) ≤ length (b .memory) + 31
 unfolding tell tellTime tellDate tellSpeaker tellPool inDecimal2 inHex4

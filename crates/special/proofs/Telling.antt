@@ -21,7 +21,7 @@ use Rattle.octets.proofs.Buffers.{length-splice}
 use Rattle.octets.proofs.Ranges.{on}
 use Rattle.buffers.proofs.Splices.{splice-none, splice-next, splice-in, overlay-covers}
 use Rattle.board.specs.Settings.{ON, inRange, withErrors, cleared}
-use Rattle.board.specs.Files.{sizeOf, filesOf, heads, unused}
+use Rattle.board.specs.Files.{taken, filesOf, heads, unused}
 use Rattle.board.specs.Soundness.{holdsFiles, sound}
 use Rattle.board.specs.declared.Settings.{Settings}
 use Rattle.board.proofs.Ranges.{range, month-most, day-most, year-most}
@@ -206,7 +206,7 @@ gather-start m n out e h =
 
 module _ {m : List ℕ} {n : ℕ} {out out′ : List ℕ} {at place left : ℕ} (g : Gathering m n out out′ at place left) where
   module _ (p : 0 < left) where
-    inside : at + 11 + sizeOf (drop at m) ≤ length m
+    inside : at + 11 + taken (drop at m) ≤ length m
     inside = omega (arith, room m at left p (g .stands))
 
     record-long : length (take 11 (drop at m)) ≡ 11
@@ -220,7 +220,7 @@ module _ {m : List ℕ} {n : ℕ} {out out′ : List ℕ} {at place left : ℕ} 
         let z : at + 11 - at ≡ 11 = omega arith in
         rw (z, record-long) (omega (arith, inside, g, room-least m))
 
-    pub gather-next : (long : ℕ) (a : List ℕ) → long ≡ 11 + sizeOf (drop at m) → a ≡ splice out′ place (take (at + 11 - at) (drop at m)) →
+    pub gather-next : (long : ℕ) (a : List ℕ) → long ≡ 11 + taken (drop at m) → a ≡ splice out′ place (take (at + 11 - at) (drop at m)) →
         Gathering m n out a (at + long) (place + 11) (left - 1)
     gather-next long a e q =
         let z : at + 11 - at ≡ 11 = omega arith in
