@@ -21,14 +21,14 @@ use octets::hex::two_at;
 use octets::slices::all_nul;
 use octets::slices::plain_run;
 ghost use mathlib.Core.Path.{_≡_};
-ghost use mathlib.Core.Bool.{_&&_, _||_};
+ghost use mathlib.Core.Bool.{_&&_};
 ghost use Prim.Native.Nat.{_+_, _≤_};
 ghost use lib.ListN.{length, drop};
-ghost use Rattle.octets.specs.Choice.{if_then_else_, _is_, _≤?_, between};
-ghost use Rattle.board.specs.Files.{STRING};
+ghost use Rattle.octets.specs.Choice.{_is_};
+ghost use Rattle.board.specs.Kinds.{kindOf, isSizeOf, isStartCode, isStopCode};
 ghost use Rattle.board.specs.Index.{entry};
 ghost use Rattle.board.specs.Board.{board};
-ghost use Rattle.board.specs.Soundness.{isLabel, isKind, isProtection, isStartCode, isStopCode, isCodes, isRecord, isContent, isMemory, sound};
+ghost use Rattle.board.specs.Soundness.{isLabel, isKind, isProtection, isCodes, isRecord, isContent, isMemory, sound};
 ghost use Rattle.board.specs.InnerNoted.{sizeOrNone, recordOrNone, lengthAt, entries, holdsNoted, soundNoted};
 
 // "P: "U" or "L""
@@ -86,12 +86,13 @@ fn is_named(f: u8, t: u8, p: u8) -> bool
 
 // "not 0000 in memory; a STRING's is 1 to 125": a size by the type of its file.
 fn is_size_of(kind: u8, size: u16, nought: bool) -> bool
-    ensures { λ r. ⌜ r ≡ (if kind is STRING then between 1 125 size else (nought || 1 ≤? size)) ⌝ }
+    ensures { λ r. ⌜ r ≡ isSizeOf (kindOf kind) nought size ⌝ }
 {
-    if kind == STRING {
-        return 1 <= size && size <= LONGEST_STRING;
+    match kind {
+        TEXT => nought || 1 <= size,
+        STRING => 1 <= size && size <= LONGEST_STRING,
+        _ => false,
     }
-    nought || 1 <= size
 }
 
 // "SIZE: four upper-case hex digits", of the record at a place; whether a TEXT's may be 0000 is told.
@@ -138,10 +139,11 @@ fn is_codes(m: &[u8], at: usize) -> bool
     ensures { λ r. ⌜ r ≡ isCodes (drop at (now (m .entry))) ⌝ }
 {
     let q = at + CODES;
-    if m[at + 1] == STRING {
-        return are_zeros(m[q], m[q + 1]) && are_zeros(m[q + 2], m[q + 3]);
+    match m[at + 1] {
+        TEXT => is_start_code(m, q) && is_stop_code(m, q + 2),
+        STRING => are_zeros(m[q], m[q + 1]) && are_zeros(m[q + 2], m[q + 3]),
+        _ => false,
     }
-    is_start_code(m, q) && is_stop_code(m, q + 2)
 }
 
 // "A record is F T P SIZE QQQQ (Table 14).": its SIZE, or that it is none.

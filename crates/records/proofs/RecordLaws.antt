@@ -2,21 +2,22 @@
 use Prim.Native.Nat.{ℕ, zero, suc, _+_, _-_, _≤_, _<_}
 use mathlib.Core.Path.{_≡_, refl, sym, ap, ap₂, _∙_}
 use mathlib.Core.List.{List, [], _∷_, _++_}
-use mathlib.Core.Bool.{Bool, true, false, _||_}
+use mathlib.Core.Bool.{Bool, true, false}
 use native.Mathlib.Omega.{arith}
 use lib.ListN.{length, take, drop, set, length-append, length-drop}
 use borrow.Author.Tests.{le-leb, leb-true, eqb-true, eqb-false}
-use Rattle.octets.specs.Choice.{if_then_else_, _is_, _≤?_, between, _!_}
-use Rattle.octets.specs.Hex.{isHex2, hex2, isHex4, hex4, inHex4}
+use Rattle.octets.specs.Choice.{_is_, _≤?_, _!_}
+use Rattle.octets.specs.Hex.{isHex4, hex4, inHex4}
 use Rattle.octets.specs.Buffer.{zeros}
 use Rattle.octets.proofs.Tests.{by-test, never, split}
 use Rattle.octets.proofs.Digits.{isHex4-inHex4, hex4-inHex4}
 use Rattle.octets.proofs.Buffers.{eleven, length-zeros}
-use Rattle.board.specs.Files.{STRING, FILES, File, sizeOf, filesOf, unused, labels, distinct}
+use Rattle.board.specs.Files.{FILES, File, sizeOf, filesOf, unused, labels, distinct}
 use Rattle.board.specs.Index.{FIRST-LABEL, isIndex, noEntries, entered, indexOf}
-use Rattle.board.specs.Soundness.{isLabel, isKind, isProtection, isSize, isStartCode, isStopCode, isCodes, isRecord}
+use Rattle.board.specs.Kinds.{Kind, text, string, neither, kindOf, isSizeOf}
+use Rattle.board.specs.Soundness.{isLabel, isKind, isProtection, isSize, isCodes, isRecord}
 use Rattle.board.specs.Soundness.{holdsFiles, isMemory, soundMemory}
-use Rattle.board.proofs.Layouts.{layout, AllValid, parse, layout-unused, holds, valid}
+use Rattle.board.proofs.Layouts.{layout, AllValid, four-codes, parse, layout-unused, holds, valid}
 use Rattle.board.proofs.Contents.{zeros-nul, zeros-content}
 use Rattle.board.proofs.Checks.{taken-size}
 use Rattle.board.proofs.SoundParts.{memory-most, whole}
@@ -47,14 +48,10 @@ records-of (suc n) (x ∷ l) e =
 
 -- ---- the size of a record
 
--- a size that a record of type t may have; the test says whether a TEXT's may be 0000
-abbrev pub isSized : Bool → ℕ → ℕ → Bool
-isSized zeroToo t v = if t is STRING then between 1 125 v else (zeroToo || 1 ≤? v)
-
 -- the tests of a record, one by one
 record-parts : (z : Bool) (d : List ℕ) → isRecord z d ≡ true →
     (isLabel (d ! 0) ≡ true) × (isKind (d ! 1) ≡ true) × (isProtection (d ! 2) ≡ true)
-    × (isSized z (d ! 1) (sizeOf d) ≡ true) × (isCodes d ≡ true)
+    × (isSizeOf (kindOf (d ! 1)) z (sizeOf d) ≡ true) × (isCodes d ≡ true)
 unfolding isRecord isSize
 record-parts z d r =
     let a = split (isLabel (d ! 0)) r in
@@ -64,17 +61,19 @@ record-parts z d r =
     (a .0, b .0, c .0, split (isHex4 (drop 3 d)) (f .0) .1, f .1)
 
 -- a size that is not 0000 needs no leave
-sized-some : (z : Bool) (t v : ℕ) → 1 ≤ v → isSized z t v ≡ true → isSized false t v ≡ true
-sized-some z t v h e = by-test (t is STRING) (λ q. rw q (rw q at e)) (λ q. rw q (le-leb 1 v h))
+sized-some : (kind : Kind) (z : Bool) (v : ℕ) → 1 ≤ v → isSizeOf kind z v ≡ true → isSizeOf kind false v ≡ true
+unfolding isSizeOf
+sized-some text z v h e = le-leb 1 v h
+sized-some string z v h e = e
+sized-some neither z v h e = e
 
 -- a size 0000 is that of a TEXT where it is allowed
-sized-none : (z : Bool) (t : ℕ) → isSized z t 0 ≡ true → ((t is STRING) ≡ false) × (z ≡ true)
-sized-none z t e = go (t is STRING) z e
-  where
-    go : (q z : Bool) → (if q then between 1 125 0 else (z || 1 ≤? 0)) ≡ true → (q ≡ false) × (z ≡ true)
-    go true z f = never (sym f)
-    go false true f = (refl, refl)
-    go false false f = never (sym f)
+sized-none : (kind : Kind) (z : Bool) → isSizeOf kind z 0 ≡ true → (kind ≡ text) × (z ≡ true)
+unfolding isSizeOf
+sized-none text true e = (refl, refl)
+sized-none text false e = never (sym e)
+sized-none string z e = never (sym e)
+sized-none neither z e = never (sym e)
 
 -- ---- the record that is stored
 
@@ -91,8 +90,8 @@ module _ (d : List ℕ) (e : 11 ≤ length d) (v : ℕ) where
       (λ a b c d e f g h i j k l. (refl, refl, refl)) d e
 
   sized-codes : isCodes (withSize v d) ≡ isCodes d
-  unfolding withSize inHex4 isCodes isStartCode isStopCode isHex2 hex2
-  sized-codes = eleven (λ l. isCodes (withSize v l) ≡ isCodes l) (λ a b c d e f g h i j k l. refl) d e
+  unfolding withSize inHex4 isCodes
+  sized-codes = eleven (λ l. isCodes (withSize v l) ≡ isCodes l) (λ a b c d e f g h i j k l. four-codes (kindOf b) h i j k [] l) d e
 
   sized-digits : drop 3 (withSize v d) ≡ inHex4 v ++ take 4 (drop 7 d)
   unfolding withSize inHex4
@@ -103,7 +102,7 @@ module _ (d : List ℕ) (e : 11 ≤ length d) (v : ℕ) where
     unfolding sizeOf
     sized-size = ap hex4 sized-digits ∙ hex4-inHex4 v h (take 4 (drop 7 d))
 
-    sized-record : (z : Bool) → isRecord z d ≡ true → isSized false (d ! 1) v ≡ true → isRecord false (withSize v d) ≡ true
+    sized-record : (z : Bool) → isRecord z d ≡ true → isSizeOf (kindOf (d ! 1)) false v ≡ true → isRecord false (withSize v d) ≡ true
     unfolding isRecord isSize
     sized-record z r g =
         let p = record-parts z d r in
@@ -138,13 +137,13 @@ module _ (d : List ℕ) (e : 11 ≤ length d) (v : ℕ) where
     stored-size : sizeOf (stored v d) ≡ v
     stored-size = sized-size (recordCapitals d) listed-most v h
 
-    stored-record : (z : Bool) → isListed z d ≡ true → isSized false (d ! 1) v ≡ true → isRecord false (stored v d) ≡ true
+    stored-record : (z : Bool) → isListed z d ≡ true → isSizeOf (kindOf (d ! 1)) false v ≡ true → isRecord false (stored v d) ≡ true
     stored-record z r g = sized-record (recordCapitals d) listed-most v h z r (rw (listed-start d e .1) g)
 
 -- ---- the size that a record gets, and the room that it leaves
 
 pub record Gets (n room : ℕ) (d : List ℕ) : Type 0 where
-  pub fit : isSized false (d ! 1) (sizeIn room d) ≡ true
+  pub fit : isSizeOf (kindOf (d ! 1)) false (sizeIn room d) ≡ true
   pub inside : 11 + sizeIn room d ≤ room
   pub more : needed n (drop 11 d) ≤ room - (11 + sizeIn room d)
 
@@ -153,15 +152,15 @@ none-left zero d e r = refl
 none-left (suc n) d e r = absurd (omega arith)
 
 pub gets : (n room : ℕ) (d : List ℕ) → Records (suc n) d → needed (suc n) d ≤ room → Gets n room d
-unfolding needed neededBy sizeIn
+unfolding needed neededBy sizeIn isSizeOf
 gets n room d r h = by-test (listedSize d is 0) all-of-it as-listed
   where
-    part : isSized (length d is 11) (d ! 1) (listedSize d) ≡ true
+    part : isSizeOf (kindOf (d ! 1)) (length d is 11) (listedSize d) ≡ true
     part = rw (listed-start d (r .0) .1) at (record-parts (length d is 11) (recordCapitals d) (r .1) .3)
 
     all-of-it : (listedSize d is 0) ≡ true → Gets n room d
     all-of-it q =
-        let t = sized-none (length d is 11) (d ! 1) (rw (eqb-true (listedSize d) 0 q) at part) in
+        let t = sized-none (kindOf (d ! 1)) (length d is 11) (rw (eqb-true (listedSize d) 0 q) at part) in
         let l : length d ≡ 11 = eqb-true (length d) 11 (t .1) in
         let n₀ : n ≡ 0 = none-left n (drop 11 d) (rw (length-drop 11 d) (omega arith)) (r .2) in
         let k : 11 + 1 + needed n (drop 11 d) ≤ room = rw q at h in
@@ -177,7 +176,7 @@ gets n room d r h = by-test (listedSize d is 0) all-of-it as-listed
         let ne : (listedSize d ≡ 0 → ⊥) = eqb-false (listedSize d) 0 q in
         let one : 1 ≤ listedSize d = omega arith in
         record {
-          fit = simp q (sized-some (length d is 11) (d ! 1) (listedSize d) one part);
+          fit = simp q (sized-some (kindOf (d ! 1)) (length d is 11) (listedSize d) one part);
           inside = simp q (omega arith);
           more = simp q (omega arith);
         }

@@ -4,8 +4,9 @@ use Rattle.temperature.specs.Offset.{isSignedDigit, signedDigit, isOffset}
 use Rattle.register.specs.Register.{isRegister}
 use Rattle.board.specs.Settings.{inRange}
 use Rattle.board.specs.Files.{sizeOf, taken, filesOf, heads, used, unused, labels, distinct, isAt, find}
+use Rattle.board.specs.Kinds.{kindOf, isSizeOf, isStartCode, isStopCode, isCodesOf}
 use Rattle.board.specs.Index.{entry, namesEach, namesNoOther, isIndex, entered, indexOf}
-use Rattle.board.specs.Soundness.{isLabel, isKind, isProtection, isSize, isStartCode, isStopCode, isCodes, isRecord, isContent, isFileAt, holdsFiles, soundMemory, keepsTrue, sound}
+use Rattle.board.specs.Soundness.{isLabel, isKind, isProtection, isSize, isCodes, isRecord, isContent, isFileAt, holdsFiles, soundMemory, keepsTrue, sound}
 use Rattle.effects.specs.Reply.{replyOf, replyRoom}
 use Rattle.effects.specs.Recording.{faultNoted}
 use Rattle.commands.specs.Commands.{holding, putMessage, writeFile, getContent, readFile}
@@ -27,8 +28,9 @@ unfolding
     isRegister
     inRange
     sizeOf taken filesOf heads used unused labels distinct isAt find
+    kindOf isSizeOf isStartCode isStopCode isCodesOf
     entry namesEach namesNoOther isIndex entered indexOf
-    isLabel isKind isProtection isSize isStartCode isStopCode isCodes isRecord isContent isFileAt holdsFiles soundMemory keepsTrue sound
+    isLabel isKind isProtection isSize isCodes isRecord isContent isFileAt holdsFiles soundMemory keepsTrue sound
     replyOf replyRoom faultNoted
     holding putMessage writeFile getContent readFile
     recordCapitals isRecords labelsIn neededBy needed refusal sizeIn withSize laid configure
