@@ -16,13 +16,12 @@ use Rattle.board.specs.declared.Found.{Found}
 use Rattle.board.specs.declared.Found.the-variants.{At, Nothing}
 use Rattle.board.specs.declared.Settings.{Settings}
 use Rattle.register.specs.Register.{CLEARED, isRegister}
-use Rattle.board.specs.Settings.{inRange, withErrors, cleared, withFiles}
-use Rattle.board.specs.Files.{TEXT, STRING, FILES, File, filesOf, unused, distinct}
-use Rattle.board.specs.Index.{indexOf}
+use Rattle.board.specs.Settings.{inRange, withErrors, cleared}
+use Rattle.board.specs.Files.{TEXT, STRING, File, filesOf}
 use Rattle.board.specs.Board.{Board, board, withSettings, withMemory, filesOn}
 use Rattle.board.specs.Soundness.{soundMemory, keepsTrue}
-use Rattle.board.proofs.Ranges.{range, errors-ranged, files-ranged}
-use Rattle.board.proofs.SoundParts.{parts, sound-parts, kept-true, sound-whole}
+use Rattle.board.proofs.Ranges.{range, errors-ranged}
+use Rattle.board.proofs.SoundParts.{sound-parts, kept-true, sound-whole}
 use Rattle.board.proofs.Inside.{sound-held, sound-unused, sound-index}
 use Rattle.effects.specs.Reply.{replyOf, replyRoom}
 use Rattle.effects.specs.Effects.{Effect, done, replied, refuse}
@@ -30,14 +29,14 @@ use Rattle.effects.specs.declared.Changed.{Changed}
 use Rattle.effects.specs.Recording.{faultNoted, withFault, recorded}
 use Rattle.commands.specs.Commands.{findOn, holding}
 use Rattle.commands.specs.Commands.{putMessage, writeFile, getContent, readFile}
-use Rattle.records.specs.Records.{isRecords, recordsIn, labelsIn, needed, refusal, laid}
-use Rattle.special.specs.Configuration.{configure}
+use Rattle.configuration.specs.Capitals.{listCapitals}
+use Rattle.configuration.specs.Records.{refusal}
+use Rattle.configuration.specs.Configuration.{replaced, replace, configure}
 use Rattle.special.specs.Special.{CONFIGURATION, CLEAR, ERRORS, setsAddress, setBy, change, writeSpecial, isTold, tell, afterTold, readSpecial}
 use Rattle.commands.specs.Blocks.{command, doBlock, runBlock}
 use Rattle.keeping.specs.Keeping.{Sound, fileIn, configures, writes, clears, Keeps}
 use Rattle.keeping.proofs.Messages.{content, put-others, holding-files, holding-length, holding-unused, holding-index, holding-sound}
-use Rattle.records.proofs.RecordLaws.{laid-length, laid-sound, laid-index}
-use Rattle.records.proofs.Refusing.{taken}
+use Rattle.configuration.proofs.ConfigurationLaws.{replaced-length, replaced-sound}
 use Rattle.keeping.proofs.Changes.{Kept, set-keeps}
 use Rattle.special.proofs.TellLengths.{told-fits}
 use Rattle.effects.proofs.ReplyLengths.{content-fits}
@@ -218,40 +217,21 @@ module _ (b : Board) (c : ℕ) where
 
   configure-effects : (label : ℕ) (d : List ℕ) → configures c (label ∷ d) ≡ true → isRead c ≡ false → clears c (label ∷ d) ≡ false →
       Noted b c (label ∷ d) (configure b d)
-  unfolding configure
+  unfolding configure replace replaced
   configure-effects label d w r z =
-      choice P (refusal d (length (b .memory)) is 0)
-      (λ e. let t = taken d (length (b .memory)) (eqb-true (refusal d (length (b .memory))) 0 e) in fit (t .good) (t .apart) (t .fits))
-      (λ e. refuses (label ∷ d) (refusal d (length (b .memory))) (eqb-false _ 0 e))
+      choice (Noted b c (label ∷ d)) (refusal l (length (b .memory)) is 0) (λ e. fit (eqb-true (refusal l (length (b .memory))) 0 e))
+      (λ e. refuses (label ∷ d) (refusal l (length (b .memory))) (eqb-false _ 0 e))
     where
-      P : Effect → Type 0
-      P = Noted b c (label ∷ d)
+      l : List ℕ
+      l = listCapitals d
 
-      n : ℕ
-      n = recordsIn d
-
-      m : List ℕ
-      m = b .memory
-
-      -- the settings after it
-      next : Settings
-      next = withFiles (b .settings) n (unused n (laid n (length m) d)) (indexOf n (laid n (length m) d))
-
-      fit : isRecords FILES d ≡ true → distinct (labelsIn n d) ≡ true → needed n d ≤ length m → P (done (board next (laid n (length m) d)))
-      fit e f g =
-          as-done (label ∷ d) (board next (laid n (length m) d)) []
+      fit : refusal l (length (b .memory)) ≡ 0 → Noted b c (label ∷ d) (done (replaced b l))
+      fit e =
+          as-done (label ∷ d) (replaced b l) []
           (record {
             own = refl;
-            long = laid-length d e (length m) g;
-            sound = λ p s.
-                let q = sound-parts b s in
-                let l = parts (b .settings .files) m (q .filed) .long in
-                sound-whole (board next (laid n (length m) d))
-                (record {
-                  ranged = files-ranged (b .settings) (q .ranged) n (unused n (laid n (length m) d)) (indexOf n (laid n (length m) d));
-                  filed = laid-sound d e (length m) g l;
-                  kept = kept-true (board next (laid n (length m) d)) (record { unused = refl; index = laid-index d e (length m) g l f });
-                });
+            long = replaced-length b l e;
+            sound = λ p. replaced-sound b l e;
             address = λ n. refl;
             files = λ n. never (sym w ∙ n);
             memory = λ n. never (sym (rw w) ∙ n);

@@ -10,9 +10,9 @@ use Rattle.board.specs.Soundness.{isLabel, isKind, isProtection, isSize, isCode
 use Rattle.effects.specs.Reply.{replyOf, replyRoom}
 use Rattle.effects.specs.Recording.{faultNoted}
 use Rattle.commands.specs.Commands.{holding, putMessage, writeFile, getContent, readFile}
-use Rattle.records.specs.Capitals.{recordCapitals}
-use Rattle.records.specs.Records.{isRecords, labelsIn, neededBy, needed, refusal, sizeIn, withSize, laid}
-use Rattle.special.specs.Configuration.{configure}
+use Rattle.configuration.specs.Capitals.{capitalsFrom}
+use Rattle.configuration.specs.Records.{isRecords, labelsIn, neededBy, needed, refusal, sizeIn, withSize, laid}
+use Rattle.configuration.specs.Configuration.{replaced, replace, configure}
 use Rattle.special.specs.Special.{setTime, setSpeaker, setFormat, setDate, setAddress, setOffset, clearErrors, setBy, writeSpecial, tellTime, tellDate, tellSpeaker, tellPool, isTold, tell, afterTold, readSpecial}
 use Rattle.commands.specs.Blocks.{command, doBlock, runBlock}
 use Rattle.sign.specs.Run.{count, measure, onto, runBlocks, runFrame, run}
@@ -33,7 +33,7 @@ unfolding
     isLabel isKind isProtection isSize isCodes isRecord isContent isFileAt holdsFiles soundMemory keepsTrue sound
     replyOf replyRoom faultNoted
     holding putMessage writeFile getContent readFile
-    recordCapitals isRecords labelsIn neededBy needed refusal sizeIn withSize laid configure
+    capitalsFrom isRecords labelsIn neededBy needed refusal sizeIn withSize laid replaced replace configure
     setTime setSpeaker setFormat setDate setAddress setOffset clearErrors setBy writeSpecial
     tellTime tellDate tellSpeaker tellPool isTold tell afterTold readSpecial
     command doBlock runBlock

@@ -1,5 +1,4 @@
 -- Laws of the special functions, and what the functions go by.
-pub mod ConfigurationLaws
 pub mod TellLengths
 pub mod Settles
 pub mod Telling

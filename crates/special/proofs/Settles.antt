@@ -28,7 +28,7 @@ use Rattle.board.specs.Settings.{FORMAT-S, FORMAT-M, OFF, ON, inDate, withTime,
 use Rattle.board.specs.declared.Settings.{Settings}
 use Rattle.board.specs.Board.{board}
 use Rattle.effects.specs.Effects.{refuse}
-use Rattle.special.specs.Configuration.{configure}
+use Rattle.configuration.specs.Configuration.{configure}
 use Rattle.special.specs.Special.{TIME, SPEAKER, CONFIGURATION, FORMAT, ADDRESS, DATE, OFFSET, CLEAR}
 use Rattle.special.specs.Special.{to, malformed, unknown, setTime, setSpeaker, setFormat, setDate, setAddress, setOffset, clearErrors, setBy, change, writeSpecial}
 use Rattle.effects.specs.InnerLeaving.{changing}

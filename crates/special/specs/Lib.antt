@@ -1,3 +1,2 @@
 -- The special functions.
-pub mod Configuration
 pub mod Special

@@ -16,7 +16,7 @@ use Rattle.board.specs.declared.Settings.{Settings}
 use Rattle.effects.specs.Reply.{replyOf}
 use Rattle.effects.specs.Effects.{Effect, effect, replied, refuse}
 use Rattle.effects.specs.declared.Changed.{Changed}
-use Rattle.special.specs.Configuration.{configure}
+use Rattle.configuration.specs.Configuration.{configure}
 
 -- label 20H
 abbrev pub TIME : ℕ

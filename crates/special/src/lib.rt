@@ -1,5 +1,4 @@
 // The special functions: E sets, F tells. The definitions are in specs/.
-mod configuration;
 mod special;
 
 pub use crate::special::read_special;

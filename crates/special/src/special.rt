@@ -1,5 +1,4 @@
 // The special functions: E sets, F tells.
-use crate::configuration::configure;
 use board::Settings;
 use board::files::RECORD;
 use board::files::file_length;
@@ -13,6 +12,7 @@ use buffers::decimal::all_decimal;
 use buffers::decimal::decimal_at;
 use buffers::decimal::put_decimal;
 use buffers::hex::put_four;
+use configuration::configure;
 use effects::Changed;
 use effects::Done;
 use effects::numbers::MALFORMED;

@@ -1,0 +1,5 @@
+-- The "$" list.
+pub mod Capitals
+pub mod Records
+pub mod Configuration
+pub mod InnerFiling
