@@ -7,7 +7,7 @@ use borrow.Author.Needs.{needs}
 use borrow.Author.Tests.{eqb-true, ne-eqb, not-true, not-false}
 use Rattle.octets.specs.Choice.{_is_}
 use Rattle.octets.specs.Bytes.{A, B, E, F, G, H}
-use Rattle.octets.proofs.Tests.{never}
+use Rattle.octets.proofs.Tests.{by-test, never}
 use Rattle.body.specs.Body.{block}
 use Rattle.board.specs.Files.{TEXT, STRING}
 use Rattle.board.specs.Board.{Board, board}
@@ -19,7 +19,7 @@ use Rattle.effects.specs.declared.Done.{Done}
 use Rattle.effects.proofs.Outcomes.{left-quiet}
 use Rattle.special.specs.Special.{writeSpecial, readSpecial}
 use Rattle.commands.specs.Blocks.{command, doBlock}
-use Rattle.commands.specs.InnerDoing.{isSpecial, writing, reading, doing, filedAs, Puts, Files}
+use Rattle.commands.specs.InnerDoing.{isSpecial, writing, reading, filing, filedAs, Puts, Files}
 use Rattle.commands.specs.declared.Filed.{Filed}
 
 -- ---- E and F
@@ -51,54 +51,52 @@ pub ruleset special-blocks = (special-told, get-special, set-special, needs)
 
 module _ (p m : List ℕ) (code : ℕ) (text out : List ℕ) (right : Bool) where
   -- by an effect on each board
-  as-answered : (e : Board → Effect) → ((b : Board) → e b ≡ doing (block code text right) b) → (r : Filed) (m′ out′ : List ℕ) →
-      Files p m out e r m′ out′ → Files p m out (doing (block code text right)) r m′ out′
+  as-answered : (e : Board → Effect) → ((b : Board) → e b ≡ filing (block code text right) b) → (r : Filed) (m′ out′ : List ℕ) →
+      Files p m out e r m′ out′ → Files p m out (filing (block code text right)) r m′ out′
   as-answered e q r m′ out′ x = record { on = λ s i. x .on s i ∙ ap (leaving out) (q (board s m)) }
 
-  as-put : (e : Board → Effect) → ((b : Board) → e b ≡ doing (block code text right) b) → (n : ℕ) (m′ : List ℕ) →
-      Puts p m e n m′ → Files p m out (doing (block code text right)) (filedAs n 0) m′ out
+  as-put : (e : Board → Effect) → ((b : Board) → e b ≡ filing (block code text right) b) → (n : ℕ) (m′ : List ℕ) →
+      Puts p m e n m′ → Files p m out (filing (block code text right)) (filedAs n 0) m′ out
   as-put e q n m′ x = record { on = λ s i. left-quiet out _ n (board s m′) (x .on s i ∙ q (board s m)) }
 
-  as-refused : (n : ℕ) → ((b : Board) → refuse n b ≡ doing (block code text right) b) →
-      Files p m out (doing (block code text right)) (filedAs n 0) m out
+  as-refused : (n : ℕ) → ((b : Board) → refuse n b ≡ filing (block code text right) b) →
+      Files p m out (filing (block code text right)) (filedAs n 0) m out
   as-refused n q = record { on = λ s i. left-quiet out _ n (board s m) (q (board s m)) }
 
   -- with a right sum
   module _ (w : not right ≡ false) where
     pub write-text : code ≡ A → (n : ℕ) (m′ : List ℕ) → Puts p m (writing TEXT text) n m′ →
-        Files p m out (doing (block code text right)) (filedAs n 0) m′ out
-    unfolding doing doBlock command writing
-    write-text e = as-put (writing TEXT text) (λ b. rw (w, e))
+        Files p m out (filing (block code text right)) (filedAs n 0) m′ out
+    unfolding filing isSpecial doBlock command writing
+    write-text e = as-put (writing TEXT text) (λ b. rw (not-false right w, e))
 
     pub write-string : code ≡ G → (n : ℕ) (m′ : List ℕ) → Puts p m (writing STRING text) n m′ →
-        Files p m out (doing (block code text right)) (filedAs n 0) m′ out
-    unfolding doing doBlock command writing
-    write-string e = as-put (writing STRING text) (λ b. rw (w, e))
+        Files p m out (filing (block code text right)) (filedAs n 0) m′ out
+    unfolding filing isSpecial doBlock command writing
+    write-string e = as-put (writing STRING text) (λ b. rw (not-false right w, e))
 
     pub read-text : code ≡ B → (r : Filed) (out′ : List ℕ) → Files p m out (reading TEXT A text) r m out′ →
-        Files p m out (doing (block code text right)) r m out′
-    unfolding doing doBlock command reading
-    read-text e r out′ = as-answered (reading TEXT A text) (λ b. rw (w, e)) r m out′
+        Files p m out (filing (block code text right)) r m out′
+    unfolding filing isSpecial doBlock command reading
+    read-text e r out′ = as-answered (reading TEXT A text) (λ b. rw (not-false right w, e)) r m out′
 
     pub read-string : code ≡ H → (r : Filed) (out′ : List ℕ) → Files p m out (reading STRING G text) r m out′ →
-        Files p m out (doing (block code text right)) r m out′
-    unfolding doing doBlock command reading
-    read-string e r out′ = as-answered (reading STRING G text) (λ b. rw (w, e)) r m out′
+        Files p m out (filing (block code text right)) r m out′
+    unfolding filing isSpecial doBlock command reading
+    read-string e r out′ = as-answered (reading STRING G text) (λ b. rw (not-false right w, e)) r m out′
 
-    pub unknown : (code ≡ A → ⊥) → (code ≡ G → ⊥) → (code ≡ B → ⊥) → (code ≡ H → ⊥) → isSpecial code right ≡ false →
-        Files p m out (doing (block code text right)) (filedAs 21 0) m out
-    unfolding doing doBlock command isSpecial
-    unknown a g b h t =
-        let n = not-either (code is E) (code is F) (sym (rw (not-false right w)) ∙ t) in
-        as-refused 21 (λ x. rw (w, ne-eqb code A a, ne-eqb code G g, ne-eqb code B b, ne-eqb code H h, n .0, n .1))
-      where
-        not-either : (x y : Bool) → (x || y) ≡ false → (x ≡ false) × (y ≡ false)
-        not-either true y e = never e
-        not-either false y e = (refl, e)
+    pub unknown : (code ≡ A → ⊥) → (code ≡ G → ⊥) → (code ≡ B → ⊥) → (code ≡ H → ⊥) →
+        Files p m out (filing (block code text right)) (filedAs 21 0) m out
+    unfolding filing isSpecial doBlock command
+    unknown a g b h =
+        as-refused 21
+        (λ x.
+        rw (not-false right w, ne-eqb code A a, ne-eqb code G g, ne-eqb code B b, ne-eqb code H h)
+        (by-test (code is E) (λ e. simp e) (λ e. by-test (code is F) (λ f. simp (e, f)) (λ f. simp (e, f)))))
 
   -- with a wrong one
-  pub sum-wrong : not right ≡ true → Files p m out (doing (block code text right)) (filedAs 20 0) m out
-  unfolding doing doBlock
-  sum-wrong w = as-refused 20 (λ b. rw w)
+  pub sum-wrong : not right ≡ true → Files p m out (filing (block code text right)) (filedAs 20 0) m out
+  unfolding filing isSpecial doBlock
+  sum-wrong w = as-refused 20 (λ b. rw (not-true right w))
 
 pub ruleset choosing = (write-text, write-string, read-text, read-string, unknown, sum-wrong, needs)

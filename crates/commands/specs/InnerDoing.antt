@@ -5,14 +5,14 @@ use mathlib.Core.Path.{_≡_}
 use mathlib.Core.Bool.{Bool, true, _&&_, _||_}
 use mathlib.Core.List.{List, []}
 use lib.ListN.{length}
-use Rattle.octets.specs.Choice.{_is_}
+use Rattle.octets.specs.Choice.{if_then_else_, _is_}
 use Rattle.octets.specs.Bytes.{E, F}
 use Rattle.body.specs.Body.{Block}
 use Rattle.board.specs.Index.{ENTRIES}
 use Rattle.board.specs.Board.{Board, board}
 use Rattle.board.specs.Soundness.{sound}
 use Rattle.board.specs.declared.Settings.{Settings}
-use Rattle.effects.specs.Effects.{Effect, effect}
+use Rattle.effects.specs.Effects.{Effect, effect, refuse}
 use Rattle.effects.specs.InnerLeaving.{left, leaving}
 use Rattle.commands.specs.Commands.{findOn, putMessage, writeFile, getContent, readFile}
 use Rattle.commands.specs.Blocks.{doBlock}
@@ -51,8 +51,9 @@ getting code label kind b = getContent code b label (findOn b label kind)
 unfoldable pub reading : ℕ → ℕ → List ℕ → Board → Effect
 reading kind code text b = readFile kind code b text
 
-unfoldable pub doing : Block → Board → Effect
-doing k b = doBlock b k
+-- any block but E and F, which are none of these commands: 21
+unfoldable pub filing : Block → Board → Effect
+filing k b = if isSpecial (k .command) (k .right) then refuse 21 b else doBlock b k
 
 -- what is answered: a number and a reply's length
 abbrev pub filedAs : ℕ → ℕ → Filed

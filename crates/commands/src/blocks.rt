@@ -17,7 +17,7 @@ use octets::bytes::H;
 use special::read_special;
 use special::write_special;
 ghost use mathlib.Core.Path.{_≡_};
-ghost use mathlib.Core.Bool.{true, false};
+ghost use mathlib.Core.Bool.{true};
 ghost use Prim.Native.Nat.{_≤_};
 ghost use lib.ListN.{length};
 ghost use Rattle.body.specs.Body.{block};
@@ -25,7 +25,7 @@ ghost use Rattle.board.specs.Board.{board};
 ghost use Rattle.effects.specs.Reply.{replyRoom};
 ghost use Rattle.effects.specs.InnerLeaving.{leftAs, leaving, Ready};
 ghost use Rattle.commands.specs.Blocks.{command};
-ghost use Rattle.commands.specs.InnerDoing.{isSpecial, doing, OfBoard, Files};
+ghost use Rattle.commands.specs.InnerDoing.{isSpecial, filing, OfBoard, Files};
 
 // Whether a block sets or tells settings: E or F, its sum right.
 pub fn is_special(code: u8, right: bool) -> bool
@@ -63,8 +63,7 @@ pub fn file_block(
 ) -> Filed
     requires { ⌜ OfBoard (now places) (now m) ⌝ }
     requires { ⌜ replyRoom (now m) ≤ length (now out) ⌝ }
-    requires { ⌜ isSpecial code right ≡ false ⌝ }
-    ensures { λ r. ⌜ Files (now (places .entry)) (now (m .entry)) (now (out .entry)) (doing (block code (now (text .entry)) right)) r (now (m .exit)) (now (out .exit)) ⌝ }
+    ensures { λ r. ⌜ Files (now (places .entry)) (now (m .entry)) (now (out .entry)) (filing (block code (now (text .entry)) right)) r (now (m .exit)) (now (out .exit)) ⌝ }
 {
     if !right {
         return Filed {

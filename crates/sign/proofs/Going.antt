@@ -24,7 +24,7 @@ use Rattle.effects.specs.InnerLeaving.{Left, left, leaving, leftAs, Ready}
 use Rattle.effects.specs.declared.Done.{Done}
 use Rattle.effects.proofs.ReplyLengths.{room-as}
 use Rattle.commands.specs.Blocks.{command, doBlock, runBlock}
-use Rattle.commands.specs.InnerDoing.{isSpecial, doing, Indexed, Files}
+use Rattle.commands.specs.InnerDoing.{isSpecial, filing, Indexed, Files}
 use Rattle.commands.specs.declared.Filed.{Filed}
 use Rattle.keeping.specs.Keeping.{Sound}
 use Rattle.keeping.proofs.Keeping.{block-keeps}
@@ -67,14 +67,15 @@ module _ (s : Settings) (u : Tally) (m o : List ℕ) (code : ℕ) (text : List �
       rw (q, p, h) (onto-left (board s m) o u (block code text true) (x .number) (board (x .settings) m′) o′ (x .length) g)
 
 -- any other block
-pub file-leaves : (p : List ℕ) (errors : ℕ) (u : Tally) (m o : List ℕ) (k : Block) (x : Filed) (m′ o′ : List ℕ) → Files p m o (doing k) x m′ o′ →
+pub file-leaves : (p : List ℕ) (errors : ℕ) (u : Tally) (m o : List ℕ) (k : Block) (x : Filed) (m′ o′ : List ℕ) → isSpecial (k .command) (k .right) ≡ false →
+    Files p m o (filing k) x m′ o′ →
     (e : ℕ) → e ≡ faultNoted errors (x .number) → (v : Tally) → v ≡ count u (x .number) → (w : Tally) → w ≡ measure v (x .length) →
     Leaves p errors u m o k (record { tally = w; errors = e }) m′ o′
-unfolding doing
-file-leaves p errors u m o k x m′ o′ f e h v a w q =
+unfolding filing
+file-leaves p errors u m o k x m′ o′ n f e h v a w q =
     record {
       on = λ s i g.
-          rw (q, a, h, ← g) (onto-left (board s m) o u k (x .number) (board s m′) o′ (x .length) (f .on s i));
+          rw (q, a, h, ← g) (onto-left (board s m) o u k (x .number) (board s m′) o′ (x .length) (rw n at (f .on s i)));
     }
 
 pub ruleset one-more = (special-onto, file-leaves, needs)
