@@ -28,7 +28,7 @@ ghost use Rattle.octets.specs.Choice.{_is_};
 ghost use Rattle.board.specs.Kinds.{kindOf, isSizeOf, isStartCode, isStopCode};
 ghost use Rattle.board.specs.Index.{entry};
 ghost use Rattle.board.specs.Board.{board};
-ghost use Rattle.board.specs.Soundness.{isLabel, isKind, isProtection, isCodes, isRecord, isContent, isMemory, sound};
+ghost use Rattle.board.specs.Soundness.{isLabel, isProtection, isCodes, isRecord, isContent, isMemory, sound};
 ghost use Rattle.board.specs.InnerNoted.{sizeOrNone, recordOrNone, lengthAt, entries, holdsNoted, soundNoted};
 
 // "P: "U" or "L""
@@ -60,13 +60,6 @@ pub fn is_label(f: u8) -> bool
     }
 }
 
-// "T: "A" TEXT, "B" STRING."
-fn is_kind(t: u8) -> bool
-    ensures { λ r. ⌜ r ≡ isKind t ⌝ }
-{
-    t == TEXT || t == STRING
-}
-
 // "P: "U" or "L""
 fn is_protection(p: u8) -> bool
     ensures { λ r. ⌜ r ≡ isProtection p ⌝ }
@@ -74,14 +67,11 @@ fn is_protection(p: u8) -> bool
     p == UNLOCKED || p == LOCKED
 }
 
-// The first three bytes of a record: F T P.
-fn is_named(f: u8, t: u8, p: u8) -> bool
-    ensures { λ r. ⌜ r ≡ (isLabel f && (isKind t && isProtection p)) ⌝ }
+// F and P of a record; what T may be is said where SIZE and QQQQ are looked at.
+fn is_named(f: u8, p: u8) -> bool
+    ensures { λ r. ⌜ r ≡ (isLabel f && isProtection p) ⌝ }
 {
-    if !is_label(f) {
-        return false;
-    }
-    is_kind(t) && is_protection(p)
+    is_label(f) && is_protection(p)
 }
 
 // "not 0000 in memory; a STRING's is 1 to 125": a size by the type of its file.
@@ -151,7 +141,7 @@ fn record_or_none(m: &[u8], at: usize, nought: bool) -> Four
     requires { ⌜ at + 11 ≤ length (now m) ⌝ }
     ensures { λ r. ⌜ r ≡ recordOrNone nought (drop at (now (m .entry))) ⌝ }
 {
-    if !is_named(m[at], m[at + 1], m[at + 2]) {
+    if !is_named(m[at], m[at + 2]) {
         return Four::Bad;
     }
     if !is_codes(m, at) {

@@ -13,9 +13,7 @@ use Rattle.cases.specs.Numbers.{Call, running, Row, row, E'S}
 
 -- a board with another place for a label
 abbrev pub placing : Board → ℕ → ℕ → Board
-placing b label place =
-    let s = b .settings in
-    withSettings b (withFiles s (s .files) (s .unused) (set (s .places) (label - FIRST-LABEL) place))
+placing b label place = withSettings b (withFiles (b .settings) (b .settings .files) (b .settings .unused) (set (b .settings .places) (label - FIRST-LABEL) place))
 
 -- a frame on the board that a run left, but with this place for a label
 abbrev pub indexing : Outcome → ℕ → ℕ → Call
@@ -34,8 +32,8 @@ two = "_01Z00_02E$AAU0010FF00SBL00080000_04" ∷ []
 -- a frame on that board, its second file under another label: "S" has no entry, the new label has that file's, and then "A" has this one
 abbrev pub relabelled : Outcome → ℕ → ℕ → Call
 relabelled x label place =
-    let b = x .after in
-    running (withMemory (placing (placing (placing b 0x53 NOWHERE) label 27) 0x41 place) (set (b .memory) 27 label)) (replyRoom (b .memory)) E'S
+    running (withMemory (placing (placing (placing (x .after) 0x53 NOWHERE) label 27) 0x41 place) (set (x .after .memory) 27 label))
+    (replyRoom (x .after .memory)) E'S
 
 -- "1 when it is wrong"
 unfoldable pub indexTable : List Row

@@ -12,8 +12,8 @@ use Rattle.body.specs.Body.{block}
 use Rattle.board.specs.Files.{TEXT, STRING}
 use Rattle.board.specs.Board.{Board, board}
 use Rattle.board.specs.declared.Settings.{Settings}
-use Rattle.effects.specs.Effects.{Effect, refuse}
-use Rattle.effects.specs.InnerLeaving.{changing, doneAs, leftAs, leaving}
+use Rattle.effects.specs.Effects.{Effect, refuse, change}
+use Rattle.effects.specs.InnerLeaving.{doneAs, leftAs, leaving}
 use Rattle.effects.specs.declared.Changed.{Changed}
 use Rattle.effects.specs.declared.Done.{Done}
 use Rattle.effects.proofs.Outcomes.{left-quiet}
@@ -34,7 +34,7 @@ module _ (s : Settings) (m : List ℕ) (code : ℕ) (text out : List ℕ) where
   unfolding command
   get-special e r out′ q = rw e q
 
-  pub set-special : (code ≡ F → ⊥) → isSpecial code true ≡ true → (c : Changed) (m′ : List ℕ) → changing c m′ ≡ writeSpecial (board s m) text →
+  pub set-special : (code ≡ F → ⊥) → isSpecial code true ≡ true → (c : Changed) (m′ : List ℕ) → change (board s m′) c ≡ writeSpecial (board s m) text →
       leftAs (doneAs (c .number) (c .settings) 0) m′ out ≡ leaving out (command (board s m) code text)
   unfolding command isSpecial
   set-special n t c m′ q =

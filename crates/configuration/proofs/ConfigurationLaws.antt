@@ -20,8 +20,7 @@ use Rattle.board.specs.declared.Settings.{Settings}
 use Rattle.board.proofs.Ranges.{files-ranged}
 use Rattle.board.proofs.SoundParts.{parts, sound-parts, kept-true, sound-whole}
 use Rattle.board.proofs.Inside.{sound-most}
-use Rattle.effects.specs.Effects.{done, refuse}
-use Rattle.effects.specs.InnerLeaving.{changing}
+use Rattle.effects.specs.Effects.{done, refuse, change}
 use Rattle.effects.specs.declared.Changed.{Changed}
 use Rattle.configuration.specs.Capitals.{listCapitals}
 use Rattle.configuration.specs.Records.{recordsIn, refusal, laid}
@@ -73,8 +72,8 @@ module _ (d o a : List ℕ) (p : a ≡ overlay o (listCapitals d)) where
   list-part = sym (ap length list-there ∙ capitals-length 0 d)
 
   -- they do what the list does
-  pub list-done : (s : Settings) (m : List ℕ) (r : Changed) (m₁ : List ℕ) → changing r m₁ ≡ replace (board s m) (take (length d) a) →
-      changing r m₁ ≡ configure (board s m) d
+  pub list-done : (s : Settings) (m : List ℕ) (r : Changed) (m₁ : List ℕ) → change (board s m₁) r ≡ replace (board s m) (take (length d) a) →
+      change (board s m₁) r ≡ configure (board s m) d
   unfolding configure
   list-done s m r m₁ g = g ∙ ap (replace (board s m)) list-there
 

@@ -15,7 +15,7 @@ use Rattle.octets.proofs.Buffers.{eleven, length-zeros}
 use Rattle.board.specs.Files.{FILES, File, sizeOf, filesOf, unused, labels, distinct}
 use Rattle.board.specs.Index.{FIRST-LABEL, isIndex, noEntries, entered, indexOf}
 use Rattle.board.specs.Kinds.{Kind, text, string, neither, kindOf, isSizeOf}
-use Rattle.board.specs.Soundness.{isLabel, isKind, isProtection, isSize, isCodes, isRecord}
+use Rattle.board.specs.Soundness.{isLabel, isProtection, isSize, isCodes, isRecord}
 use Rattle.board.specs.Soundness.{holdsFiles, isMemory, soundMemory}
 use Rattle.board.proofs.Layouts.{layout, AllValid, four-codes, parse, layout-unused, holds, valid}
 use Rattle.board.proofs.Contents.{zeros-nul, zeros-content}
@@ -59,15 +59,14 @@ records-most (suc n) (x ∷ l) h =
 
 -- the tests of a record, one by one
 record-parts : (z : Bool) (d : List ℕ) → isRecord z d ≡ true →
-    (isLabel (d ! 0) ≡ true) × (isKind (d ! 1) ≡ true) × (isProtection (d ! 2) ≡ true)
+    (isLabel (d ! 0) ≡ true) × (isProtection (d ! 2) ≡ true)
     × (isSizeOf (kindOf (d ! 1)) z (sizeOf d) ≡ true) × (isCodes d ≡ true)
 unfolding isRecord isSize
 record-parts z d r =
     let a = split (isLabel (d ! 0)) r in
-    let b = split (isKind (d ! 1)) (a .1) in
-    let c = split (isProtection (d ! 2)) (b .1) in
-    let f = split (isSize z d) (c .1) in
-    (a .0, b .0, c .0, split (isHex4 (drop 3 d)) (f .0) .1, f .1)
+    let b = split (isProtection (d ! 2)) (a .1) in
+    let c = split (isSize z d) (b .1) in
+    (a .0, b .0, split (isHex4 (drop 3 d)) (c .0) .1, c .1)
 
 -- a size that is not 0000 needs no leave
 sized-some : (kind : Kind) (z : Bool) (v : ℕ) → 1 ≤ v → isSizeOf kind z v ≡ true → isSizeOf kind false v ≡ true
@@ -125,8 +124,7 @@ module _ (d : List ℕ) (e : 11 ≤ length d) (v : ℕ) where
           isHex4-inHex4 v h (take 4 (drop 7 d)),
           p .0,
           p .1,
-          p .2,
-          p .4,
+          p .3,
           g,
         )
 
@@ -146,7 +144,7 @@ unfolding needed neededBy sizeIn isSizeOf
 gets n room d r h = by-test (sizeOf d is 0) all-of-it as-listed
   where
     part : isSizeOf (kindOf (d ! 1)) (length d is 11) (sizeOf d) ≡ true
-    part = record-parts (length d is 11) d (r .1) .3
+    part = record-parts (length d is 11) d (r .1) .2
 
     all-of-it : (sizeOf d is 0) ≡ true → Gets n room d
     all-of-it q =

@@ -11,13 +11,13 @@ ghost use mathlib.Core.Path.{_≡_};
 ghost use mathlib.Core.Bool.{true};
 ghost use Rattle.board.specs.Board.{board};
 ghost use Rattle.board.specs.Soundness.{sound};
-ghost use Rattle.effects.specs.InnerLeaving.{changing};
+ghost use Rattle.effects.specs.Effects.{change};
 ghost use Rattle.configuration.specs.Configuration.{replace, configure};
 
 // A list in capitals is refused, or all files are replaced.
 fn replace(s: Settings, m: &mut [u8], list: &[u8]) -> Changed
     requires { ⌜ sound (board s (now m)) ≡ true ⌝ }
-    ensures { λ r. ⌜ changing r (now (m .exit)) ≡ replace (board s (now (m .entry))) (now (list .entry)) ⌝ }
+    ensures { λ r. ⌜ change (board s (now (m .exit))) r ≡ replace (board s (now (m .entry))) (now (list .entry)) ⌝ }
 {
     let number = refusal(list, m.len());
     if number != 0 {
@@ -38,7 +38,7 @@ fn replace(s: Settings, m: &mut [u8], list: &[u8]) -> Changed
 // The list as sent is put in capitals, once. One of more than 64 records has no room there: "bad record, count or length".
 pub fn configure(s: Settings, m: &mut [u8], d: &[u8]) -> Changed
     requires { ⌜ sound (board s (now m)) ≡ true ⌝ }
-    ensures { λ r. ⌜ changing r (now (m .exit)) ≡ configure (board s (now (m .entry))) (now (d .entry)) ⌝ }
+    ensures { λ r. ⌜ change (board s (now (m .exit))) r ≡ configure (board s (now (m .entry))) (now (d .entry)) ⌝ }
 {
     let n = d.len();
     if LIST < n {

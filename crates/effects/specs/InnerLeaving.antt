@@ -11,8 +11,7 @@ use Rattle.board.specs.Board.{Board, board}
 use Rattle.board.specs.Soundness.{sound}
 use Rattle.board.specs.declared.Settings.{Settings}
 use Rattle.effects.specs.Reply.{replyOf, replyRoom}
-use Rattle.effects.specs.Effects.{Effect, effect}
-use Rattle.effects.specs.declared.Changed.{Changed}
+use Rattle.effects.specs.Effects.{Effect}
 use Rattle.effects.specs.declared.Done.{Done}
 
 -- what a block answers
@@ -35,10 +34,6 @@ pub record Replied (out : List ℕ) (code label : ℕ) (d after : List ℕ) (n :
 pub record Told (out d after : List ℕ) (n : ℕ) : Type 0 where
   pub stored : after ≡ splice out 27 d
   pub long : n ≡ length d
-
--- what a command that gives no reply answered and left, as an effect
-abbrev pub changing : Changed → List ℕ → Effect
-changing r m = effect (r .number) (board (r .settings) m) []
 
 -- what a command answered and left: its number, the board, the reply buffer and the length of the reply in it
 pub record Left : Type 0 where

@@ -1,6 +1,6 @@
 -- What every command keeps: own type and memory's length; a sound board sound; the address and memory where they are not set;
 -- files that it does not name; the reply buffer where it is no read. One walk over the commands gives all of it.
-use Prim.Native.Nat.{ℕ, _+_, _≤_}
+use Prim.Native.Nat.{ℕ, _≤_}
 use mathlib.Core.Path.{_≡_, refl, sym, ap, _∙_}
 use mathlib.Core.List.{List, [], _∷_}
 use mathlib.Core.Bool.{Bool, true, false, not}
@@ -18,13 +18,13 @@ use Rattle.board.specs.declared.Settings.{Settings}
 use Rattle.register.specs.Register.{CLEARED, isRegister}
 use Rattle.board.specs.Settings.{inRange, withErrors, cleared}
 use Rattle.board.specs.Files.{TEXT, STRING, File, filesOf}
-use Rattle.board.specs.Board.{Board, board, withSettings, withMemory, filesOn}
-use Rattle.board.specs.Soundness.{soundMemory, keepsTrue}
+use Rattle.board.specs.Board.{Board, withSettings, withMemory, filesOn}
+use Rattle.board.specs.Soundness.{soundMemory, keepsTrue, sound}
 use Rattle.board.proofs.Ranges.{range, errors-ranged}
 use Rattle.board.proofs.SoundParts.{sound-parts, kept-true, sound-whole}
 use Rattle.board.proofs.Inside.{sound-held, sound-unused, sound-index}
 use Rattle.effects.specs.Reply.{replyOf, replyRoom}
-use Rattle.effects.specs.Effects.{Effect, done, replied, refuse}
+use Rattle.effects.specs.Effects.{Effect, done, replied, refuse, change}
 use Rattle.effects.specs.declared.Changed.{Changed}
 use Rattle.effects.specs.Recording.{faultNoted, withFault, recorded}
 use Rattle.commands.specs.Commands.{findOn, holding}
@@ -32,9 +32,9 @@ use Rattle.commands.specs.Commands.{putMessage, writeFile, getContent, readFile
 use Rattle.configuration.specs.Capitals.{listCapitals}
 use Rattle.configuration.specs.Records.{refusal}
 use Rattle.configuration.specs.Configuration.{replaced, replace, configure}
-use Rattle.special.specs.Special.{CONFIGURATION, CLEAR, ERRORS, setsAddress, setBy, change, writeSpecial, isTold, tell, afterTold, readSpecial}
+use Rattle.special.specs.Special.{CONFIGURATION, CLEAR, ERRORS, setsAddress, setBy, writeSpecial, isTold, tell, afterTold, readSpecial}
 use Rattle.commands.specs.Blocks.{command, doBlock, runBlock}
-use Rattle.keeping.specs.Keeping.{Sound, fileIn, configures, writes, clears, Keeps}
+use Rattle.keeping.specs.Keeping.{fileIn, configures, writes, clears, Keeps}
 use Rattle.keeping.proofs.Messages.{content, put-others, holding-files, holding-length, holding-unused, holding-index, holding-sound}
 use Rattle.configuration.proofs.ConfigurationLaws.{replaced-length, replaced-sound}
 use Rattle.keeping.proofs.Changes.{Kept, set-keeps}
@@ -44,22 +44,22 @@ use Rattle.effects.proofs.RecordingLaws.{fault-fixed}
 
 -- other settings that are in range and keep the same of memory
 other-settings : (b : Board) (t : Settings) → (inRange (b .settings) ≡ true → inRange t ≡ true) → t .files ≡ b .settings .files →
-    keepsTrue (withSettings b t) ≡ keepsTrue b → Sound b → Sound (withSettings b t)
+    keepsTrue (withSettings b t) ≡ keepsTrue b → sound b ≡ true → sound (withSettings b t) ≡ true
 other-settings b t r f k e =
     let q = sound-parts b e in
     sound-whole (withSettings b t)
     (record { ranged = r (q .ranged); filed = ap (λ (n : ℕ). soundMemory n (b .memory)) f ∙ q .filed; kept = k ∙ q .kept })
 
 -- another register with its fixed bits
-pub errors-sound : (b : Board) (x : ℕ) → (isRegister (b .settings .errors) ≡ true → isRegister x ≡ true) → Sound b →
-    Sound (withSettings b (withErrors (b .settings) x))
+pub errors-sound : (b : Board) (x : ℕ) → (isRegister (b .settings .errors) ≡ true → isRegister x ≡ true) → sound b ≡ true →
+    sound (withSettings b (withErrors (b .settings) x)) ≡ true
 unfolding keepsTrue
 errors-sound b x h =
     let s = b .settings in
     other-settings b (withErrors s x) (λ r. errors-ranged s r x (h (range s r .errors))) refl refl
 
 -- a number that is noted
-fault-sound : (b : Board) (n : ℕ) → Sound b → Sound (withSettings b (withFault (b .settings) n))
+fault-sound : (b : Board) (n : ℕ) → sound b ≡ true → sound (withSettings b (withFault (b .settings) n)) ≡ true
 fault-sound b n = errors-sound b (faultNoted (b .settings .errors) n) (fault-fixed (b .settings .errors) n)
 
 -- what a command keeps once its number is noted
@@ -105,7 +105,7 @@ module _ (b : Board) (c : ℕ) where
     where
       whole : (x : ℕ) → x ≡ (if clears c d then CLEARED else b .settings .errors) →
           withErrors (b .settings) x ≡ (if clears c d then cleared (b .settings) else b .settings) →
-          (Sound b → Sound (withSettings b (withErrors (b .settings) x))) →
+          (sound b ≡ true → sound (withSettings b (withErrors (b .settings) x)) ≡ true) →
           Keeps b c d (replied (withSettings b (withErrors (b .settings) x)) r)
       whole x e g h =
           record {

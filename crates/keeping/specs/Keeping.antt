@@ -18,21 +18,9 @@ use Rattle.effects.specs.Effects.{Effect}
 use Rattle.effects.specs.Recording.{withFault}
 use Rattle.special.specs.Special.{CONFIGURATION, CLEAR, ERRORS, setsAddress}
 
--- a sound board
-abbrev pub Sound : Board → Type 0
-Sound b = sound b ≡ true
-
--- a board whose memory holds its files as it has to
-abbrev pub Holds : Board → Type 0
-Holds b = holdsFiles (b .settings .files) (b .memory) ≡ true
-
 -- the file at place k, counted from 0; a file that is missing counts as one without bytes
 abbrev pub fileIn : List File → ℕ → File
 fileIn fs k = getD fs k (record { head = []; body = [] })
-
--- the file of a board at place k
-abbrev pub fileOf : Board → ℕ → File
-fileOf b k = fileIn (filesOn b) k
 
 -- a command with these data replaces all files: E "$"
 abbrev pub configures : ℕ → List ℕ → Bool
@@ -51,14 +39,14 @@ pub record Keeps (b : Board) (c : ℕ) (d : List ℕ) (e : Effect) : Type 0 wher
   -- own type and memory's length stay, and a sound board stays sound
   pub own : e .after .settings .own ≡ b .settings .own
   pub long : length (e .after .memory) ≡ length (b .memory)
-  pub sound : all isPlain d ≡ true → Sound b → Sound (e .after)
+  pub sound : all isPlain d ≡ true → sound b ≡ true → sound (e .after) ≡ true
   -- the address, the number of files and memory stay where the command is not one that sets them
   pub address : setsAddress c d ≡ false → e .after .settings .address ≡ b .settings .address
   pub files : configures c d ≡ false → e .after .settings .files ≡ b .settings .files
   pub memory : writes c d ≡ false → e .after .memory ≡ b .memory
   -- a file of another label keeps every byte, of its record and of its content
-  pub others : configures c d ≡ false → all isPlain d ≡ true → Holds b →
-      (k : ℕ) → (fileOf b k .head ! 0 ≡ d ! 0 → ⊥) → fileOf (e .after) k ≡ fileOf b k
+  pub others : configures c d ≡ false → all isPlain d ≡ true → holdsFiles (b .settings .files) (b .memory) ≡ true →
+      (k : ℕ) → (fileIn (filesOn b) k .head ! 0 ≡ d ! 0 → ⊥) → fileIn (filesOn (e .after)) k ≡ fileIn (filesOn b) k
   -- refused: no reply, and the board as it was but for the register, which is the old one with the bit of that number
   pub refused : (e .number ≡ 0 → ⊥) → (e .after ≡ withSettings b (withFault (b .settings) (e .number))) × (e .reply ≡ [])
   -- done: the register as it was, unless the command clears it: "a bit stays until cleared"

@@ -13,8 +13,9 @@ use Rattle.body.specs.Body.{Block}
 use Rattle.board.specs.Board.{Board}
 use Rattle.effects.specs.Effects.{Effect}
 use Rattle.commands.specs.Blocks.{runBlock}
-use Rattle.sign.specs.Run.{tally, nothing, count, measure, State, state, onto, runBlocks, Outcome, outcomeAs, run, next}
+use Rattle.sign.specs.Run.{tally, nothing, count, measure, Outcome, outcomeAs, untouched, onto, runBlocks, run, next}
 use Rattle.sign.specs.declared.Tally.{Tally}
+use Rattle.sign.proofs.RunLaws.{blocks-number}
 
 -- blocks done and refused are the sums; the first refused block is the first's, else the second's, moved by the first's blocks;
 -- the reply is the later one, if there is one
@@ -26,10 +27,10 @@ plus t u =
     (if u .length is 0 then t .length else u .length)
 
 -- a run over joined lists is the one and then the other
-pub run-join : (st : State) (xs ys : List Block) → runBlocks st (xs ++ ys) ≡ runBlocks (runBlocks st xs) ys
+pub run-join : (st : Outcome) (xs ys : List Block) → runBlocks st (xs ++ ys) ≡ runBlocks (runBlocks st xs) ys
 unfolding runBlocks
 run-join st [] ys = refl
-run-join st (x ∷ xs) ys = run-join (onto st (runBlock (st .now) x)) xs ys
+run-join st (x ∷ xs) ys = run-join (onto st (runBlock (st .after) x)) xs ys
 
 tally-eq : {d r p f n d′ r′ p′ f′ n′ : ℕ} → d ≡ d′ → r ≡ r′ → p ≡ p′ → f ≡ f′ → n ≡ n′ → tally d r p f n ≡ tally d′ r′ p′ f′ n′
 tally-eq a b c d e = λ i. tally (a i) (b i) (c i) (d i) (e i)
@@ -56,45 +57,43 @@ plus-nothing t =
     (λ a. simp a (tally-eq (omega arith) (omega arith) refl (sym (eqb-true (t .reason) 0 a)) refl))
     (λ a. simp a (tally-eq (omega arith) (omega arith) refl refl refl))
 
--- a state whose counts come on top of others
-abbrev pub upon : Tally → State → State
-upon t st = state (st .now) (st .buffer) (plus t (st .counts))
+-- an outcome whose counts come on top of others
+abbrev pub upon : Tally → Outcome → Outcome
+upon t st = outcomeAs (st .number) (plus t (st .tally)) (st .after) (st .reply)
 
-upon-onto : (t : Tally) (st : State) (e : Effect) → onto (upon t st) e ≡ upon t (onto st e)
+upon-onto : (t : Tally) (st : Outcome) (e : Effect) → onto (upon t st) e ≡ upon t (onto st e)
 unfolding onto
 upon-onto t st e =
-    ap (state (e .after) (overlay (st .buffer) (e .reply)))
-    (ap (λ (u : Tally). measure u (length (e .reply))) (count-plus t (st .counts) (e .number))
-    ∙ measure-plus t (count (st .counts) (e .number)) (length (e .reply)))
+    ap (λ (u : Tally). outcomeAs (st .number) u (e .after) (overlay (st .reply) (e .reply)))
+    (ap (λ (u : Tally). measure u (length (e .reply))) (count-plus t (st .tally) (e .number))
+    ∙ measure-plus t (count (st .tally) (e .number)) (length (e .reply)))
 
-run-upon : (t : Tally) (st : State) (ks : List Block) → runBlocks (upon t st) ks ≡ upon t (runBlocks st ks)
+run-upon : (t : Tally) (st : Outcome) (ks : List Block) → runBlocks (upon t st) ks ≡ upon t (runBlocks st ks)
 unfolding runBlocks
 run-upon t st [] = refl
 run-upon t st (k ∷ ks) =
-    ap (λ (x : State). runBlocks x ks) (upon-onto t st (runBlock (st .now) k)) ∙ run-upon t (onto st (runBlock (st .now) k)) ks
+    ap (λ (x : Outcome). runBlocks x ks) (upon-onto t st (runBlock (st .after) k)) ∙ run-upon t (onto st (runBlock (st .after) k)) ks
 
 -- a run from counts t is the run from no counts, its counts upon t
 pub run-counts : (b : Board) (o : List ℕ) (t : Tally) (ks : List Block) →
-    runBlocks (state b o t) ks ≡ upon t (runBlocks (state b o nothing) ks)
-run-counts b o t ks = ap (λ (u : Tally). runBlocks (state b o u) ks) (sym (plus-nothing t)) ∙ run-upon t (state b o nothing) ks
+    runBlocks (outcomeAs 0 t b o) ks ≡ upon t (runBlocks (untouched 0 b o) ks)
+run-counts b o t ks = ap (λ (u : Tally). runBlocks (outcomeAs 0 u b o) ks) (sym (plus-nothing t)) ∙ run-upon t (untouched 0 b o) ks
 
--- so the counts of a run over joined lists are the sums, in the sense of `plus`
+-- so a run over joined lists is the one and then the other, their counts added
 pub counts-join : (b : Board) (o : List ℕ) (xs ys : List Block) →
-    let st = runBlocks (state b o nothing) xs in
-    runBlocks (state b o nothing) (xs ++ ys) ≡ upon (st .counts) (runBlocks (state (st .now) (st .buffer) nothing) ys)
+    let st = runBlocks (untouched 0 b o) xs in
+    runBlocks (untouched 0 b o) (xs ++ ys) ≡ upon (st .tally) (runBlocks (untouched 0 (st .after) (st .reply)) ys)
 counts-join b o xs ys =
-    let st = runBlocks (state b o nothing) xs in
-    run-join (state b o nothing) xs ys ∙ run-counts (st .now) (st .buffer) (st .counts) ys
+    let st = runBlocks (untouched 0 b o) xs in
+    run-join (untouched 0 b o) xs ys
+    ∙ ap (λ (n : ℕ). runBlocks (outcomeAs n (st .tally) (st .after) (st .reply)) ys) (blocks-number xs (untouched 0 b o))
+    ∙ run-counts (st .after) (st .reply) (st .tally) ys
 
 -- ---- whole runs
-
--- two outcomes one after the other, as one: number, board and reply buffer of the later, the sum of the counts
-abbrev pub together : Outcome → Outcome → Outcome
-together x y = outcomeAs (y .number) (plus (x .tally) (y .tally)) (y .after) (y .reply)
 
 -- running the joined frame leaves the same board and reply buffer as running the first and then the second:
 -- j on a board does what f and then g do; the runs answer one number; the reply's length is the second run's
 pub record Packed (b : Board) (o f g j : List ℕ) : Type 0 where
-  pub whole : run b o j ≡ together (run b o f) (next (run b o f) g)
+  pub whole : run b o j ≡ upon (run b o f .tally) (next (run b o f) g)
   pub number : run b o j .number ≡ run b o f .number
   pub length : run b o j .tally .length ≡ next (run b o f) g .tally .length

@@ -20,13 +20,13 @@ use Rattle.effects.proofs.ReplyLengths.{room-as}
 use Rattle.special.specs.Special.{setsAddress}
 use Rattle.commands.specs.Blocks.{runBlock}
 use Rattle.keeping.proofs.Keeping.{block-keeps}
-use Rattle.sign.specs.Run.{nothing, State, state, onto, runBlocks, Outcome, untouched, ran, runFrame, run, next}
+use Rattle.sign.specs.Run.{Outcome, untouched, onto, runBlocks, runFrame, run, next}
 use Rattle.sign.specs.declared.Tally.{Tally}
 use Rattle.sign.proofs.Alike.{run-capitals}
-use Rattle.sign.proofs.RunLaws.{none-zero, run-unsound, run-short}
+use Rattle.sign.proofs.RunLaws.{none-zero, run-unsound, run-short, blocks-number}
 use Rattle.sign.proofs.Steady.{NoReads, run-passed}
 use Rattle.packing.specs.Packed.{setsNoAddress, SameAsInTurn}
-use Rattle.packing.proofs.Adding.{plus, upon, counts-join, together, Packed}
+use Rattle.packing.proofs.Adding.{plus, upon, counts-join, Packed}
 
 -- ---- a read is only the last block: so there is none before others
 
@@ -44,13 +44,13 @@ none-before x (b ∷ bs) cs n e =
 
 -- ---- the address stays where no block sets it
 
-blocks-address : (ks : List Block) → setsNoAddress ks ≡ true → (st : State) → runBlocks st ks .now .settings .address ≡ st .now .settings .address
+blocks-address : (ks : List Block) → setsNoAddress ks ≡ true → (st : Outcome) → runBlocks st ks .after .settings .address ≡ st .after .settings .address
 unfolding setsNoAddress runBlocks onto
 blocks-address [] n st = refl
 blocks-address (k ∷ ks) n st =
     let p = split (not (setsAddress (k .command) (k .text))) n in
-    let x = runBlock (st .now) k in
-    blocks-address ks (p .1) (onto st x) ∙ block-keeps (st .now) k .address (not-true (setsAddress (k .command) (k .text)) (p .0))
+    let x = runBlock (st .after) k in
+    blocks-address ks (p .1) (onto st x) ∙ block-keeps (st .after) k .address (not-true (setsAddress (k .command) (k .text)) (p .0))
 
 -- ---- a run, case by case
 
@@ -67,7 +67,7 @@ module _ (b : Board) (o f : List ℕ) where
     unfolding runFrame
     run-away a = run-read ∙ rw a
 
-    run-here : fits h ≡ true → run b o f ≡ ran (runBlocks (state b o nothing) ks)
+    run-here : fits h ≡ true → run b o f ≡ runBlocks (untouched 0 b o) ks
     unfolding runFrame
     run-here a = run-read ∙ rw a
 
@@ -78,7 +78,7 @@ module _ (b : Board) (o f : List ℕ) where
       let P : Outcome → Type 0 = λ x. x .after .settings .address ≡ b .settings .address in
       by-test (sound b)
       (λ e. by-test (length o <? replyRoom (b .memory)) (λ g. subst P (sym (run-short b o f e g)) refl)
-      (λ g. by-test (fits h) (λ a. subst P (sym (run-here e g h ks r a)) (blocks-address ks n (state b o nothing)))
+      (λ g. by-test (fits h) (λ a. subst P (sym (run-here e g h ks r a)) (blocks-address ks n (untouched 0 b o)))
       (λ a. subst P (sym (run-away e g h ks r a)) refl)))
       (λ e. subst P (sym (run-unsound b o f e)) refl)
 
@@ -94,57 +94,65 @@ module _ (b : Board) (o f g j h : List ℕ) (bs cs : List Block)
         let e : next (run b o f) g ≡ untouched n b o = ap (λ (x : Outcome). next x g) c ∙ d in
         record { whole = rw (a, e, c); number = rw (a, c); length = rw (a, e) }
 
-    start : State
-    start = state b o nothing
+    start : Outcome
+    start = untouched 0 b o
 
-    first : State
+    first : Outcome
     first = runBlocks start bs
 
-    later : State
-    later = runBlocks (state (first .now) (first .buffer) nothing) cs
+    later : Outcome
+    later = runBlocks (untouched 0 (first .after) (first .reply)) cs
 
     -- where all three run
     module _ (e : sound b ≡ true) (l : (length o <? replyRoom (b .memory)) ≡ false) (a : fits b o f h ≡ true)
         (still : run b o f .after .settings .address ≡ b .settings .address) where
-      quiet : (first .buffer ≡ o) × (first .counts .length ≡ 0)
+      quiet : (first .reply ≡ o) × (first .tally .length ≡ 0)
       unfolding start first
       quiet =
           run-passed bs start .quiet
           (none-before false bs cs (capitals-good g h cs rg .some) (capitals-good j h (bs ++ cs) rj .reads))
 
-      ran-first : run b o f ≡ ran first
+      ran-first : run b o f ≡ first
       unfolding start first
       ran-first = run-here b o f e l h bs rf a
 
       -- the reply buffer has room for the second run too
-      roomy : (length (first .buffer) <? replyRoom (first .now .memory)) ≡ false
+      roomy : (length (first .reply) <? replyRoom (first .after .memory)) ≡ false
       unfolding start first
       roomy = rw (quiet .0) (le-ltb (length o) _ (room-as (b .memory) _ (run-passed bs start .memory) (ltb-false (length o) (replyRoom (b .memory)) l)))
 
-      ran-later : next (run b o f) g ≡ ran later
+      ran-later : next (run b o f) g ≡ later
       unfolding start first later
       ran-later =
           let p = run-passed bs start in
-          let adr : first .now .settings .address ≡ b .settings .address =
+          let adr : first .after .settings .address ≡ b .settings .address =
           sym (ap (λ (x : Outcome). x .after .settings .address) ran-first) ∙ still in
           ap (λ (x : Outcome). next x g) ran-first
-          ∙ run-here (first .now) (first .buffer) g (p .sound (capitals-good f h bs rf .plain) e) roomy h cs rg (rw (p .own, adr) a)
+          ∙ run-here (first .after) (first .reply) g (p .sound (capitals-good f h bs rf .plain) e) roomy h cs rg (rw (p .own, adr) a)
 
-      ran-both : run b o j ≡ ran (upon (first .counts) later)
+      ran-both : run b o j ≡ upon (first .tally) later
       unfolding start first later
-      ran-both = run-here b o j e l h (bs ++ cs) rj a ∙ ap ran (counts-join b o bs cs)
+      ran-both = run-here b o j e l h (bs ++ cs) rj a ∙ counts-join b o bs cs
 
-      later-length : upon (first .counts) later .counts .length ≡ later .counts .length
+      later-length : upon (first .tally) later .tally .length ≡ later .tally .length
       unfolding plus
       later-length =
-          by-test (later .counts .length is 0)
-          (λ q. simp q (quiet .1 ∙ sym (eqb-true (later .counts .length) 0 q))) (λ q. simp q)
+          by-test (later .tally .length is 0)
+          (λ q. simp q (quiet .1 ∙ sym (eqb-true (later .tally .length) 0 q))) (λ q. simp q)
+
+      first-number : first .number ≡ 0
+      unfolding start first
+      first-number = blocks-number bs start
+
+      later-number : later .number ≡ 0
+      unfolding later
+      later-number = blocks-number cs (untouched 0 (first .after) (first .reply))
 
       here : Packed b o f g j
       here =
           record {
-            whole = ran-both ∙ sym (ap₂ together ran-first ran-later);
-            number = ap (λ (x : Outcome). x .number) ran-both ∙ sym (ap (λ (x : Outcome). x .number) ran-first);
+            whole = ran-both ∙ sym (ap₂ (λ (x : Outcome). upon (x .tally)) ran-first ran-later);
+            number = ap (λ (x : Outcome). x .number) ran-both ∙ later-number ∙ sym (ap (λ (x : Outcome). x .number) ran-first ∙ first-number);
             length =
                 ap (λ (x : Outcome). x .tally .length) ran-both ∙ later-length
                 ∙ sym (ap (λ (x : Outcome). x .tally .length) ran-later);

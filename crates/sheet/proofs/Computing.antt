@@ -6,7 +6,7 @@ use Rattle.board.specs.Settings.{inRange}
 use Rattle.board.specs.Files.{sizeOf, taken, filesOf, heads, used, unused, labels, distinct, isAt, find}
 use Rattle.board.specs.Kinds.{kindOf, isSizeOf, isStartCode, isStopCode, isCodesOf}
 use Rattle.board.specs.Index.{entry, namesEach, namesNoOther, isIndex, entered, indexOf}
-use Rattle.board.specs.Soundness.{isLabel, isKind, isProtection, isSize, isCodes, isRecord, isContent, isFileAt, holdsFiles, soundMemory, keepsTrue, sound}
+use Rattle.board.specs.Soundness.{isLabel, isProtection, isSize, isCodes, isRecord, isContent, isFileAt, holdsFiles, soundMemory, keepsTrue, sound}
 use Rattle.effects.specs.Reply.{replyOf, replyRoom}
 use Rattle.effects.specs.Recording.{faultNoted}
 use Rattle.commands.specs.Commands.{holding, putMessage, writeFile, getContent, readFile}
@@ -30,7 +30,7 @@ unfolding
     sizeOf taken filesOf heads used unused labels distinct isAt find
     kindOf isSizeOf isStartCode isStopCode isCodesOf
     entry namesEach namesNoOther isIndex entered indexOf
-    isLabel isKind isProtection isSize isCodes isRecord isContent isFileAt holdsFiles soundMemory keepsTrue sound
+    isLabel isProtection isSize isCodes isRecord isContent isFileAt holdsFiles soundMemory keepsTrue sound
     replyOf replyRoom faultNoted
     holding putMessage writeFile getContent readFile
     capitalsFrom isRecords labelsIn neededBy needed refusal sizeIn withSize laid replaced replace configure

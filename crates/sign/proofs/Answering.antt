@@ -20,8 +20,8 @@ use Rattle.board.specs.Soundness.{sound}
 use Rattle.board.specs.declared.Settings.{Settings}
 use Rattle.effects.specs.Reply.{replyRoom}
 use Rattle.effects.specs.InnerLeaving.{Ready}
-use Rattle.sign.specs.Run.{nothing, state, runBlocks, outcome, ran, runFrame, run}
-use Rattle.sign.specs.InnerRunning.{answerAs, stateAs, Framed}
+use Rattle.sign.specs.Run.{nothing, outcome, untouched, runBlocks, runFrame, run}
+use Rattle.sign.specs.InnerRunning.{answerAs, soFar, Framed}
 use Rattle.sign.specs.declared.Tally.{Tally}
 use Rattle.sign.specs.declared.Answer.{Answer}
 use Rattle.sign.specs.declared.run.Ran.{Ran}
@@ -38,10 +38,10 @@ module _ (s : Settings) (m o t : List ℕ) (i j : ℕ) (b : Bool) (e : b ≡ add
   frame-away y r q = rw (q, ← e, y)
 
   -- 0
-  pub frame-ran : not b ≡ false → (x : Ran) (m′ o′ : List ℕ) → stateAs x m′ o′ ≡ runBlocks (state (board s m) o nothing) (blocksAt t j) →
+  pub frame-ran : not b ≡ false → (x : Ran) (m′ o′ : List ℕ) → soFar x m′ o′ ≡ runBlocks (untouched 0 (board s m) o) (blocksAt t j) →
       outcome (answerAs 0 (x .tally) (x .settings)) m′ o′ ≡ runFrame (board s m) o (frame (part i j t) (blocksAt t j))
   unfolding runFrame
-  frame-ran y x m′ o′ f = rw (← e, y) (ap ran f)
+  frame-ran y x m′ o′ f = rw (← e, y) f
 
 pub ruleset framing = (untouched-as, frame-away, frame-ran, needs)
 

@@ -15,7 +15,7 @@ use Rattle.register.specs.Register.{isRegister}
 use Rattle.board.specs.Settings.{inRange}
 use Rattle.board.specs.Files.{filesOf, used, unused, labels, distinct}
 use Rattle.board.specs.Index.{isIndex, entered}
-use Rattle.board.specs.Board.{Board, board, filesOn}
+use Rattle.board.specs.Board.{board, filesOn}
 use Rattle.board.specs.Soundness.{holdsFiles, isMemory, sound}
 use Rattle.board.proofs.Ranges.{first-date}
 use Rattle.board.proofs.Contents.{zeros-nul}

@@ -14,7 +14,8 @@ use Rattle.octets.proofs.Buffers.{length-zeros}
 use Rattle.header.specs.Addressing.{isOwnType}
 use Rattle.board.specs.Soundness.{isMemory}
 use Rattle.board.proofs.SoundParts.{memory-most}
-use Rattle.sign.specs.Fresh.{making, madeAs, allZero, freshSettings, fresh}
+use Rattle.sign.specs.Fresh.{making, allZero, freshSettings, fresh}
+use Rattle.sign.specs.InnerRunning.{madeAs}
 use Rattle.sign.specs.declared.Made.{Made}
 
 -- all of memory zeros

@@ -26,10 +26,9 @@ use Rattle.effects.proofs.ReplyLengths.{room-as}
 use Rattle.commands.specs.Blocks.{command, doBlock, runBlock}
 use Rattle.commands.specs.InnerDoing.{isSpecial, filing, Indexed, Files}
 use Rattle.commands.specs.declared.Filed.{Filed}
-use Rattle.keeping.specs.Keeping.{Sound}
 use Rattle.keeping.proofs.Keeping.{block-keeps}
-use Rattle.sign.specs.Run.{nothing, count, measure, State, state, onto, runBlocks}
-use Rattle.sign.specs.InnerRunning.{stateAs, Runnable, Fileable, Leaves, Running}
+use Rattle.sign.specs.Run.{nothing, count, measure, Outcome, outcomeAs, untouched, onto, runBlocks}
+use Rattle.sign.specs.InnerRunning.{soFar, Runnable, Fileable, Leaves, Running}
 use Rattle.sign.specs.declared.Tally.{Tally}
 use Rattle.sign.specs.declared.run.Noted.{Noted}
 use Rattle.sign.specs.declared.run.Ran.{Ran}
@@ -52,16 +51,16 @@ measure-total t n = choice (λ (u : Tally). u .done + u .refused ≡ t .done + t
 
 -- what a block leaves, with its counts
 onto-left : (b : Board) (o : List ℕ) (u : Tally) (k : Block) (n : ℕ) (a : Board) (o′ : List ℕ) (l : ℕ) → left n a o′ l ≡ leaving o (doBlock b k) →
-    state (withSettings a (withFault (a .settings) n)) o′ (measure (count u n) l) ≡ onto (state b o u) (runBlock b k)
+    outcomeAs 0 (measure (count u n) l) (withSettings a (withFault (a .settings) n)) o′ ≡ onto (outcomeAs 0 u b o) (runBlock b k)
 unfolding onto runBlock leaving
 onto-left b o u k n a o′ l e =
-    ap (λ (x : Left). state (withSettings (x .after) (withFault (x .after .settings) (x .number))) (x .buffer) (measure (count u (x .number)) (x .length))) e
+    ap (λ (x : Left). outcomeAs 0 (measure (count u (x .number)) (x .length)) (withSettings (x .after) (withFault (x .after .settings) (x .number))) (x .buffer)) e
 
 -- E or F, by what it answered
 module _ (s : Settings) (u : Tally) (m o : List ℕ) (code : ℕ) (text : List ℕ) where
   pub special-onto : (x : Done) (m′ o′ : List ℕ) → leftAs x m′ o′ ≡ leaving o (command (board s m) code text) → (s′ : Settings) → s′ ≡ withFault (x .settings) (x .number) →
       (v : Tally) → v ≡ count u (x .number) → (w : Tally) → w ≡ measure v (x .length) →
-      state (board s′ m′) o′ w ≡ onto (state (board s m) o u) (runBlock (board s m) (block code text true))
+      outcomeAs 0 w (board s′ m′) o′ ≡ onto (outcomeAs 0 u (board s m) o) (runBlock (board s m) (block code text true))
   unfolding doBlock
   special-onto x m′ o′ g s′ h v p w q =
       rw (q, p, h) (onto-left (board s m) o u (block code text true) (x .number) (board (x .settings) m′) o′ (x .length) g)
@@ -103,7 +102,7 @@ pub record Going (b : Board) (o₀ t : List ℕ) (from : ℕ) (s : Settings) (u 
   pub long : length m ≡ length (b .memory)
   pub wide : length o ≡ length o₀
   pub good : isBody (blocks left (drop at t)) ≡ true
-  pub same : runBlocks (state (board s m) o u) (blocksIn (blocks left (drop at t))) ≡ runBlocks (state b o₀ nothing) (blocksAt t from)
+  pub same : runBlocks (outcomeAs 0 u (board s m) o) (blocksIn (blocks left (drop at t))) ≡ runBlocks (untouched 0 b o₀) (blocksAt t from)
 
 pub going-start : {s : Settings} {m o t : List ℕ} {from : ℕ} → Running (board s m) o t from → length (s .places) ≡ ENTRIES → (u : Tally) → u ≡ nothing →
     Going (board s m) o t from s u m o from BLOCKS
@@ -116,7 +115,7 @@ going-start {s} {m} {o} {t} {from} g l u e =
       long = refl;
       wide = refl;
       good = g .good;
-      same = ap (λ (y : Tally). runBlocks (state (board s m) o y) (blocksAt t from)) e;
+      same = ap (λ (y : Tally). runBlocks (outcomeAs 0 y (board s m) o) (blocksAt t from)) e;
     }
 
 module _ {b : Board} {o₀ t : List ℕ} {from : ℕ} {s : Settings} {u : Tally} {m o : List ℕ} {at left : ℕ} (g : Going b o₀ t from s u m o at left) where
@@ -143,19 +142,19 @@ module _ {b : Board} {o₀ t : List ℕ} {from : ℕ} {s : Settings} {u : Tally}
   unfolding isBody
   never-bad h = never (sym (sym (ap isBody h) ∙ g .good))
 
-  pub going-end : left ≤ 0 → state (board s m) o u ≡ runBlocks (state b o₀ nothing) (blocksAt t from)
+  pub going-end : left ≤ 0 → outcomeAs 0 u (board s m) o ≡ runBlocks (untouched 0 b o₀) (blocksAt t from)
   going-end p = never-bad (none-blocks (drop at t) left p)
 
   module _ (p : 0 < left) (x : BlockStep) (e : x ≡ foundAt t at) where
-    pub going-stray : x ≡ Stray → state (board s m) o u ≡ runBlocks (state b o₀ nothing) (blocksAt t from)
+    pub going-stray : x ≡ Stray → outcomeAs 0 u (board s m) o ≡ runBlocks (untouched 0 b o₀) (blocksAt t from)
     going-stray h = never-bad (stray-blocks t at x e h left p)
 
     -- a block was run; s′, u′, m′ and o′ are what it left
     module _ (c i j : ℕ) (k : Bool) (s′ : Settings) (u′ : Tally) (m′ o′ : List ℕ)
-        (f : state (board s′ m′) o′ u′ ≡ onto (state (board s m) o u) (runBlock (board s m) (block c (part i j t) k))) where
-      last : x ≡ Last c i j k → state (board s′ m′) o′ u′ ≡ runBlocks (state b o₀ nothing) (blocksAt t from)
+        (f : outcomeAs 0 u′ (board s′ m′) o′ ≡ onto (outcomeAs 0 u (board s m) o) (runBlock (board s m) (block c (part i j t) k))) where
+      last : x ≡ Last c i j k → outcomeAs 0 u′ (board s′ m′) o′ ≡ runBlocks (untouched 0 b o₀) (blocksAt t from)
       unfolding runBlocks blocksIn
-      last h = f ∙ sym (ap (λ (y : Body). runBlocks (state (board s m) o u) (blocksIn y)) (last-blocks t at x e h left p)) ∙ g .same
+      last h = f ∙ sym (ap (λ (y : Body). runBlocks (outcomeAs 0 u (board s m) o) (blocksIn y)) (last-blocks t at x e h left p)) ∙ g .same
 
       module _ (n : ℕ) (h : x ≡ More c i j k n) where
         first : Block
@@ -171,23 +170,23 @@ module _ {b : Board} {o₀ t : List ℕ} {from : ℕ} {s : Settings} {u : Tally}
         rest-good : isBody rest ≡ true
         rest-good = good-behind first rest (sym (ap isBody here) ∙ g .good)
 
-        ahead : runBlocks (onto (state (board s m) o u) (runBlock (board s m) first)) (blocksIn rest)
-            ≡ runBlocks (state (board s m) o u) (blocksIn (blocks left (drop at t)))
+        ahead : runBlocks (onto (outcomeAs 0 u (board s m) o) (runBlock (board s m) first)) (blocksIn rest)
+            ≡ runBlocks (outcomeAs 0 u (board s m) o) (blocksIn (blocks left (drop at t)))
         unfolding runBlocks
         ahead =
-            sym (ap (λ (y : Body). runBlocks (state (board s m) o u) (blocksIn y)) here
-            ∙ ap (runBlocks (state (board s m) o u)) (blocks-behind first rest rest-good))
+            sym (ap (λ (y : Body). runBlocks (outcomeAs 0 u (board s m) o) (blocksIn y)) here
+            ∙ ap (runBlocks (outcomeAs 0 u (board s m) o)) (blocks-behind first rest rest-good))
 
-        sound-after : Sound (board s′ m′)
+        sound-after : sound (board s′ m′) ≡ true
         unfolding first onto
-        sound-after = ap (λ (y : State). sound (y .now)) f ∙ block-keeps (board s m) first .sound (more-plain t at x e h) (g .ready .sound)
+        sound-after = ap (λ (y : Outcome). sound (y .after)) f ∙ block-keeps (board s m) first .sound (more-plain t at x e h) (g .ready .sound)
 
         more : length (s′ .places) ≡ ENTRIES → length m′ ≡ length m → length o′ ≡ length o → Going b o₀ t from s′ u′ m′ o′ n (left - 1)
         unfolding first rest onto
         more ls lm lo =
             let z = runBlock (board s m) first in
             let total : u′ .done + u′ .refused ≡ u .done + u .refused + 1 =
-            ap (λ (y : State). y .counts .done + y .counts .refused) f
+            ap (λ (y : Outcome). y .tally .done + y .tally .refused) f
             ∙ measure-total (count u (z .number)) (length (z .reply)) ∙ count-total u (z .number) in
             record {
               ready = record { sound = sound-after; room = rw lo (room-as m m′ lm (g .ready .room)) };
@@ -196,17 +195,17 @@ module _ {b : Board} {o₀ t : List ℕ} {from : ℕ} {s : Settings} {u : Tally}
               long = lm ∙ g .long;
               wide = lo ∙ g .wide;
               good = rest-good;
-              same = ap (λ (y : State). runBlocks y (blocksIn rest)) f ∙ ahead ∙ g .same;
+              same = ap (λ (y : Outcome). runBlocks y (blocksIn rest)) f ∙ ahead ∙ g .same;
             }
 
     -- E or F; y is the code's answer to that
     module _ (c i j : ℕ) (k : Bool) (y : Bool) (q : y ≡ isSpecial c k) (z : y ≡ true) {r : Ran} {m′ o′ : List ℕ}
-        (f : stateAs r m′ o′ ≡ onto (state (board s m) o u) (runBlock (board s m) (block c (part i j t) true))) where
-      right : stateAs r m′ o′ ≡ onto (state (board s m) o u) (runBlock (board s m) (block c (part i j t) k))
+        (f : soFar r m′ o′ ≡ onto (outcomeAs 0 u (board s m) o) (runBlock (board s m) (block c (part i j t) true))) where
+      right : soFar r m′ o′ ≡ onto (outcomeAs 0 u (board s m) o) (runBlock (board s m) (block c (part i j t) k))
       unfolding isSpecial
-      right = f ∙ ap (λ (v : Bool). onto (state (board s m) o u) (runBlock (board s m) (block c (part i j t) v))) (sym (split k (sym q ∙ z) .0))
+      right = f ∙ ap (λ (v : Bool). onto (outcomeAs 0 u (board s m) o) (runBlock (board s m) (block c (part i j t) v))) (sym (split k (sym q ∙ z) .0))
 
-      pub special-last : x ≡ Last c i j k → stateAs r m′ o′ ≡ runBlocks (state b o₀ nothing) (blocksAt t from)
+      pub special-last : x ≡ Last c i j k → soFar r m′ o′ ≡ runBlocks (untouched 0 b o₀) (blocksAt t from)
       special-last = last c i j k (r .settings) (r .tally) m′ o′ right
 
       pub special-more : {n : ℕ} → x ≡ More c i j k n → length (r .settings .places) ≡ ENTRIES → length m′ ≡ length m → length o′ ≡ length o →
@@ -215,10 +214,10 @@ module _ {b : Board} {o₀ t : List ℕ} {from : ℕ} {s : Settings} {u : Tally}
 
     -- any other
     module _ (c i j : ℕ) (k : Bool) {r : Noted} {m′ o′ : List ℕ} (f : Leaves (s .places) (s .errors) u m o (block c (part i j t) k) r m′ o′) where
-      left-on : state (board (withErrors s (r .errors)) m′) o′ (r .tally) ≡ onto (state (board s m) o u) (runBlock (board s m) (block c (part i j t) k))
+      left-on : outcomeAs 0 (r .tally) (board (withErrors s (r .errors)) m′) o′ ≡ onto (outcomeAs 0 u (board s m) o) (runBlock (board s m) (block c (part i j t) k))
       left-on = f .on s indexed refl
 
-      pub file-last : x ≡ Last c i j k → state (board (withErrors s (r .errors)) m′) o′ (r .tally) ≡ runBlocks (state b o₀ nothing) (blocksAt t from)
+      pub file-last : x ≡ Last c i j k → outcomeAs 0 (r .tally) (board (withErrors s (r .errors)) m′) o′ ≡ runBlocks (untouched 0 b o₀) (blocksAt t from)
       file-last = last c i j k (withErrors s (r .errors)) (r .tally) m′ o′ left-on
 
       pub file-more : {n : ℕ} → x ≡ More c i j k n → length m′ ≡ length m → length o′ ≡ length o →

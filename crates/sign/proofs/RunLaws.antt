@@ -15,7 +15,7 @@ use Rattle.board.specs.Board.{Board}
 use Rattle.board.specs.Soundness.{sound}
 use Rattle.effects.specs.Reply.{replyRoom}
 use Rattle.commands.specs.Blocks.{runBlock}
-use Rattle.sign.specs.Run.{tally, nothing, count, measure, State, state, onto, runBlocks, Outcome, untouched, runFrame, run}
+use Rattle.sign.specs.Run.{tally, count, measure, Outcome, untouched, onto, runBlocks, runFrame, run}
 use Rattle.sign.specs.Counts.{blockNumbers, doneIn, refusedIn, reasonIn, placeIn, Counts}
 use Rattle.sign.specs.declared.Tally.{Tally}
 
@@ -31,6 +31,12 @@ module _ (b : Board) (o f : List ℕ) where
   pub run-short : sound b ≡ true → (length o <? replyRoom (b .memory)) ≡ true → run b o f ≡ untouched 2 b o
   unfolding run
   run-short e g = rw (e, g)
+
+-- "the frame's number is 0", whatever the numbers of its blocks
+pub blocks-number : (ks : List Block) (x : Outcome) → runBlocks x ks .number ≡ x .number
+unfolding runBlocks onto
+blocks-number [] x = refl
+blocks-number (k ∷ ks) x = blocks-number ks (onto x (runBlock (x .after) k))
 
 -- ---- the numbers of the blocks, one after another
 
@@ -107,25 +113,25 @@ counts-more n k t u ns i =
     let c : CountsOn (tally (count t n .done) (count t n .refused) (count t n .place) (count t n .reason) k) u ns = simp z at i in
     record { done = c .done; refused = c .refused; reason = c .reason; place = c .place }))
 
--- blocks, from any state
-run-on : (st : State) (ks : List Block) → CountsOn (st .counts) (runBlocks st ks .counts) (blockNumbers (st .now) ks)
+-- blocks, behind any others
+run-on : (st : Outcome) (ks : List Block) → CountsOn (st .tally) (runBlocks st ks .tally) (blockNumbers (st .after) ks)
 unfolding runBlocks blockNumbers onto doneIn refusedIn reasonIn placeIn
 run-on st [] =
     record {
       done = omega arith;
       refused = omega arith;
-      reason = by-test (st .counts .reason is 0) (λ z. simp z (eqb-true (st .counts .reason) 0 z)) (λ z. simp z);
-      place = by-test (st .counts .reason is 0) (λ z. simp z) (λ z. simp z);
+      reason = by-test (st .tally .reason is 0) (λ z. simp z (eqb-true (st .tally .reason) 0 z)) (λ z. simp z);
+      place = by-test (st .tally .reason is 0) (λ z. simp z) (λ z. simp z);
     }
 run-on st (k ∷ ks) =
-    let e = runBlock (st .now) k in
-    counts-more (e .number) (length (e .reply)) (st .counts) (runBlocks (onto st e) ks .counts) (blockNumbers (e .after) ks)
+    let e = runBlock (st .after) k in
+    counts-more (e .number) (length (e .reply)) (st .tally) (runBlocks (onto st e) ks .tally) (blockNumbers (e .after) ks)
     (run-on (onto st e) ks)
 
 -- the counts of a run over blocks
-pub run-counted : (b : Board) (o : List ℕ) (ks : List Block) → Counts (runBlocks (state b o nothing) ks .counts) (blockNumbers b ks)
+pub run-counted : (b : Board) (o : List ℕ) (ks : List Block) → Counts (runBlocks (untouched 0 b o) ks .tally) (blockNumbers b ks)
 run-counted b o ks =
-    let c = run-on (state b o nothing) ks in
+    let c = run-on (untouched 0 b o) ks in
     let ns = blockNumbers b ks in
     record {
       done = omega (arith, c .done);

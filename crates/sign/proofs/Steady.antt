@@ -24,11 +24,10 @@ use Rattle.board.proofs.Inside.{sound-unused, sound-index}
 use Rattle.effects.specs.Reply.{replyRoom}
 use Rattle.effects.proofs.ReplyLengths.{room-as}
 use Rattle.commands.specs.Blocks.{runBlock}
-use Rattle.keeping.specs.Keeping.{Sound}
 use Rattle.keeping.proofs.Keeping.{block-keeps}
-use Rattle.sign.specs.Run.{nothing, count, measure, State, state, onto, runBlocks, Outcome, untouched, runFrame, run}
+use Rattle.sign.specs.Run.{count, measure, Outcome, untouched, onto, runBlocks, runFrame, run}
 use Rattle.sign.specs.declared.Tally.{Tally}
-use Rattle.sign.proofs.RunLaws.{run-unsound}
+use Rattle.sign.proofs.RunLaws.{run-unsound, blocks-number}
 use Rattle.sign.proofs.NotSound.{sound-offset, sound-errors}
 
 -- ---- blocks
@@ -38,13 +37,13 @@ abbrev pub NoReads : List Block → Type 0
 NoReads [] = Unit {0}
 NoReads (k ∷ ks) = (isRead (k .command) ≡ false) × NoReads ks
 
--- what blocks keep, from a state to a state
-pub record Passed (ks : List Block) (st x : State) : Type 0 where
-  pub own : x .now .settings .own ≡ st .now .settings .own
-  pub memory : length (x .now .memory) ≡ length (st .now .memory)
-  pub buffer : replyRoom (st .now .memory) ≤ length (st .buffer) → length (x .buffer) ≡ length (st .buffer)
-  pub sound : PlainBlocks ks → Sound (st .now) → Sound (x .now)
-  pub quiet : NoReads ks → (x .buffer ≡ st .buffer) × (x .counts .length ≡ st .counts .length)
+-- what blocks keep, from one outcome to the next
+pub record Passed (ks : List Block) (st x : Outcome) : Type 0 where
+  pub own : x .after .settings .own ≡ st .after .settings .own
+  pub memory : length (x .after .memory) ≡ length (st .after .memory)
+  pub reply : replyRoom (st .after .memory) ≤ length (st .reply) → length (x .reply) ≡ length (st .reply)
+  pub sound : PlainBlocks ks → sound (st .after) ≡ true → sound (x .after) ≡ true
+  pub quiet : NoReads ks → (x .reply ≡ st .reply) × (x .tally .length ≡ st .tally .length)
 
 -- a block without a reply
 length-none : (t : Tally) (n : ℕ) (s : List ℕ) → s ≡ [] → measure (count t n) (length s) .length ≡ t .length
@@ -54,25 +53,25 @@ length-none t n s e =
     (choice (λ (u : Tally). u .length ≡ t .length) (n is 0) (λ e. refl)
     (λ e. choice (λ (u : Tally). u .length ≡ t .length) (t .reason is 0) (λ e. refl) (λ e. refl)))
 
--- blocks, from any state
-pub run-passed : (ks : List Block) (st : State) → Passed ks st (runBlocks st ks)
+-- blocks, behind any others
+pub run-passed : (ks : List Block) (st : Outcome) → Passed ks st (runBlocks st ks)
 unfolding runBlocks onto
-run-passed [] st = record { own = refl; memory = refl; buffer = λ h. refl; sound = λ p s. s; quiet = λ n. (refl, refl) }
+run-passed [] st = record { own = refl; memory = refl; reply = λ h. refl; sound = λ p s. s; quiet = λ n. (refl, refl) }
 run-passed (k ∷ ks) st =
-    let x = runBlock (st .now) k in
-    let f = block-keeps (st .now) k in
+    let x = runBlock (st .after) k in
+    let f = block-keeps (st .after) k in
     let i = run-passed ks (onto st x) in
     record {
       own = i .own ∙ f .own;
       memory = i .memory ∙ f .long;
-      buffer = λ h.
-          let l = length-overlay (st .buffer) (x .reply) (omega (arith, f .fits)) in
-          i .buffer (rw l (room-as (st .now .memory) (x .after .memory) (f .long) h)) ∙ l;
+      reply = λ h.
+          let l = length-overlay (st .reply) (x .reply) (omega (arith, f .fits)) in
+          i .reply (rw l (room-as (st .after .memory) (x .after .memory) (f .long) h)) ∙ l;
       sound = λ p s. i .sound (p .1) (f .sound (p .0 .following) s);
       quiet = λ n.
           let r = f .quiet (n .0) in
           let q = i .quiet (n .1) in
-          (q .0 ∙ ap (overlay (st .buffer)) r ∙ overlay-none (st .buffer), q .1 ∙ length-none (st .counts) (x .number) (x .reply) r);
+          (q .0 ∙ ap (overlay (st .reply)) r ∙ overlay-none (st .reply), q .1 ∙ length-none (st .tally) (x .number) (x .reply) r);
     }
 
 -- ---- a whole run
@@ -82,7 +81,7 @@ pub record Steady (b : Board) (o : List ℕ) (x : Outcome) : Type 0 where
   pub own : x .after .settings .own ≡ b .settings .own
   pub memory : length (x .after .memory) ≡ length (b .memory)
   pub reply : length (x .reply) ≡ length o
-  pub sound : Sound b → Sound (x .after)
+  pub sound : sound b ≡ true → sound (x .after) ≡ true
   pub refused : (x .number ≡ 0 → ⊥) → x ≡ untouched (x .number) b o
 
 untouched-steady : (b : Board) (o : List ℕ) (n : ℕ) → Steady b o (untouched n b o)
@@ -92,15 +91,15 @@ frame-steady : (b : Board) (o f : List ℕ) → replyRoom (b .memory) ≤ length
 unfolding runFrame
 frame-steady b o f l (refused n) e = untouched-steady b o n
 frame-steady b o f l (frame h bs) e =
-    let p = run-passed bs (state b o nothing) in
+    let p = run-passed bs (untouched 0 b o) in
     choice (Steady b o) (not (addressed (b .settings .own) (b .settings .address) h)) (λ a. untouched-steady b o 9)
     (λ a.
     record {
       own = p .own;
       memory = p .memory;
-      reply = p .buffer l;
+      reply = p .reply l;
       sound = λ g. p .sound (read-good f h bs e .plain) g;
-      refused = λ n. absurd (n refl);
+      refused = λ n. absurd (n (blocks-number bs (untouched 0 b o)));
     })
 
 -- any frame on any board, with any reply buffer

@@ -20,7 +20,7 @@ use Rattle.effects.proofs.RecordingLaws.{fault-stays}
 use Rattle.commands.specs.Blocks.{runBlock}
 use Rattle.keeping.specs.Keeping.{clears}
 use Rattle.keeping.proofs.Keeping.{block-keeps}
-use Rattle.sign.specs.Run.{nothing, State, state, onto, runBlocks, Outcome, runFrame, run}
+use Rattle.sign.specs.Run.{Outcome, untouched, onto, runBlocks, runFrame, run}
 use Rattle.sign.specs.Errors.{errorsBehind, errorsThrough, clearsNone}
 use Rattle.sign.specs.Counts.{blockNumbers}
 use Rattle.sign.proofs.Steady.{run-untouched}
@@ -35,14 +35,14 @@ block-errors b k =
     (λ e. let z = eqb-true (x .number) 0 e in f .errors z ∙ rw z)
     (λ e. ap (λ (y : Board). y .settings .errors) (f .refused (eqb-false (x .number) 0 e) .0) ∙ rw e)
 
--- and blocks, from any state
-blocks-errors : (ks : List Block) (st : State) →
-    runBlocks st ks .now .settings .errors ≡ errorsThrough (st .now .settings .errors) ks (blockNumbers (st .now) ks)
+-- and blocks, behind any others
+blocks-errors : (ks : List Block) (st : Outcome) →
+    runBlocks st ks .after .settings .errors ≡ errorsThrough (st .after .settings .errors) ks (blockNumbers (st .after) ks)
 unfolding runBlocks onto blockNumbers errorsThrough
 blocks-errors [] st = refl
 blocks-errors (k ∷ ks) st =
-    let x = runBlock (st .now) k in
-    blocks-errors ks (onto st x) ∙ ap (λ (r : ℕ). errorsThrough r ks (blockNumbers (x .after) ks)) (block-errors (st .now) k)
+    let x = runBlock (st .after) k in
+    blocks-errors ks (onto st x) ∙ ap (λ (r : ℕ). errorsThrough r ks (blockNumbers (x .after) ks)) (block-errors (st .after) k)
 
 -- a bit that is set stays where no block clears, whatever the numbers
 errors-stay : (ks : List Block) → clearsNone ks ≡ true → (ns : List ℕ) (r k : ℕ) → bit r k ≡ 1 → bit (errorsThrough r ks ns) k ≡ 1
@@ -69,7 +69,7 @@ unfolding runFrame
 frame-noted b o (refused n) = tt
 frame-noted b o (frame h bs) =
     choice (Noted b (frame h bs)) (not (addressed (b .settings .own) (b .settings .address) h)) (λ a z. absurd (omega arith))
-    (λ a z. blocks-errors bs (state b o nothing))
+    (λ a z. blocks-errors bs (untouched 0 b o))
 
 run-noted : (b : Board) (o f : List ℕ) → Noted b (read f) (run b o f)
 unfolding run

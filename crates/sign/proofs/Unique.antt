@@ -6,8 +6,8 @@ use Rattle.board.specs.Board.{Board}
 use Rattle.board.specs.declared.Settings.{Settings}
 use Rattle.board.proofs.Unique.{unique}
 use Rattle.sign.specs.Run.{Outcome, outcome, run}
-use Rattle.sign.specs.Fresh.{Making, madeAs, making, fresh}
-use Rattle.sign.specs.InnerRunning.{answerAs}
+use Rattle.sign.specs.Fresh.{Making, making, fresh}
+use Rattle.sign.specs.InnerRunning.{madeAs, answerAs}
 use Rattle.sign.specs.Errors.{portErrors}
 use Rattle.sign.specs.declared.Answer.{Answer}
 use Rattle.sign.specs.declared.Driven.{Driven}

@@ -24,10 +24,6 @@ pub record Making : Type 0 where
 abbrev pub makes : ℕ → Board → Making
 makes n b = record { number = n; made = b }
 
--- an answer's number and settings
-abbrev pub madeAs : ℕ → Settings → Made
-madeAs n s = record { number = n; settings = s }
-
 -- by an answer and memory
 abbrev pub making : Made → List ℕ → Making
 making r m = makes (r .number) (board (r .settings) m)
@@ -36,19 +32,15 @@ making r m = makes (r .number) (board (r .settings) m)
 abbrev pub allZero : Settings
 allZero = settings 0 0 0 0 0 0 0 0 0 0 0 (replicate ENTRIES 0) (pos 0) 0
 
--- "memory untouched"
-abbrev pub unmade : ℕ → List ℕ → Making
-unmade n m = makes n (board allZero m)
-
 -- "A fresh board has 00:00, 01 01 00, format S, speaker off, address 00, no files", and its own type; request 3: all of its memory,
 -- so many bytes, is unused; request 7: no label has a record; request 9: "Fresh boards hold 0."; request 10: "A fresh register is a
 -- cleared one."
 abbrev pub freshSettings : ℕ → ℕ → Settings
 freshSettings t n = settings 0 0 1 1 0 FORMAT-S OFF 0 t 0 n noEntries (pos 0) CLEARED
 
--- a fresh board: "memory all zero"; "Fresh: 10, 11": 10 "wrong type", 11 "wrong memory length"
+-- a fresh board: "memory all zero"; "Fresh: 10, 11": 10 "wrong type", 11 "wrong memory length", with "memory untouched"
 unfoldable pub fresh : ℕ → List ℕ → Making
 fresh t m =
-    if not (isOwnType t) then unmade 10 m
-    else if not (isMemory (length m)) then unmade 11 m
+    if not (isOwnType t) then makes 10 (board allZero m)
+    else if not (isMemory (length m)) then makes 11 (board allZero m)
     else makes 0 (board (freshSettings t (length m)) (zeros (length m)))

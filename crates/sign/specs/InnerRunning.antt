@@ -14,19 +14,24 @@ use Rattle.effects.specs.Reply.{replyRoom}
 use Rattle.effects.specs.InnerLeaving.{Ready}
 use Rattle.commands.specs.Blocks.{runBlock}
 use Rattle.commands.specs.InnerDoing.{isSpecial, Indexed, OfBoard}
-use Rattle.sign.specs.Run.{State, state, onto}
+use Rattle.sign.specs.Run.{Outcome, outcomeAs, onto}
 use Rattle.sign.specs.declared.Tally.{Tally}
 use Rattle.sign.specs.declared.Answer.{Answer}
+use Rattle.sign.specs.declared.Made.{Made}
 use Rattle.sign.specs.declared.run.Noted.{Noted}
 use Rattle.sign.specs.declared.run.Ran.{Ran}
+
+-- what the making of a fresh board answers
+abbrev pub madeAs : ℕ → Settings → Made
+madeAs n s = record { number = n; settings = s }
 
 -- a run's answer
 abbrev pub answerAs : ℕ → Tally → Settings → Answer
 answerAs n t s = record { number = n; tally = t; settings = s }
 
--- counts and settings beside memory and reply buffer
-abbrev pub stateAs : Ran → List ℕ → List ℕ → State
-stateAs r m o = state (board (r .settings) m) o (r .tally)
+-- counts and settings beside memory and reply buffer, behind blocks
+abbrev pub soFar : Ran → List ℕ → List ℕ → Outcome
+soFar r m o = outcomeAs 0 (r .tally) (board (r .settings) m) o
 
 -- E or F may be run: the board is ready, and fewer blocks than a frame has were run before
 pub record Runnable (s : Settings) (u : Tally) (m o : List ℕ) (code : ℕ) : Type 0 where
@@ -44,7 +49,7 @@ pub record Fileable (p : List ℕ) (u : Tally) (m o : List ℕ) (code : ℕ) (ri
 -- what that leaves of every sound board of this index, this memory and this register: another register, memory, reply buffer, counts
 pub record Leaves (p : List ℕ) (errors : ℕ) (u : Tally) (m o : List ℕ) (k : Block) (r : Noted) (m′ o′ : List ℕ) : Type 0 where
   pub on : (s : Settings) → Indexed p m s → s .errors ≡ errors →
-      state (board (withErrors s (r .errors)) m′) o′ (r .tally) ≡ onto (state (board s m) o u) (runBlock (board s m) k)
+      outcomeAs 0 (r .tally) (board (withErrors s (r .errors)) m′) o′ ≡ onto (outcomeAs 0 u (board s m) o) (runBlock (board s m) k)
 
 -- a good body stands at a place, and the board is ready
 pub record Running (b : Board) (o t : List ℕ) (from : ℕ) : Type 0 where

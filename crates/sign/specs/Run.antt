@@ -35,26 +35,7 @@ count t number =
 unfoldable pub measure : Tally → ℕ → Tally
 measure t n = if n is 0 then t else tally (t .done) (t .refused) (t .place) (t .reason) n
 
--- between two blocks: the board, the reply buffer, the counts
-pub record State : Type 0 where
-  pub now : Board
-  pub buffer : List ℕ
-  pub counts : Tally
-
--- such a state
-abbrev pub state : Board → List ℕ → Tally → State
-state b o t = record { now = b; buffer = o; counts = t }
-
--- "It stands at the start of the reply buffer; nothing after it is touched, and nothing at all where there is no reply."
-unfoldable pub onto : State → Effect → State
-onto st e = state (e .after) (overlay (st .buffer) (e .reply)) (measure (count (st .counts) (e .number)) (length (e .reply)))
-
--- the blocks in order
-unfoldable pub runBlocks : State → List Block → State
-runBlocks st [] = st
-runBlocks st (k ∷ ks) = runBlocks (onto st (runBlock (st .now) k)) ks
-
--- what a run answers and leaves: its number and counts, the board after it, and the reply buffer
+-- what a run answers and leaves, and has come to behind each of its blocks: its number and counts, the board, and the reply buffer
 pub record Outcome : Type 0 where
   pub number : ℕ
   pub tally : Tally
@@ -73,16 +54,21 @@ outcome r m o = outcomeAs (r .number) (r .tally) (board (r .settings) m) o
 abbrev pub untouched : ℕ → Board → List ℕ → Outcome
 untouched n b o = outcomeAs n nothing b o
 
--- "20 to 27 concern one block; the frame's number is 0."
-abbrev pub ran : State → Outcome
-ran st = outcomeAs 0 (st .counts) (st .now) (st .buffer)
+-- a block more: "It stands at the start of the reply buffer; nothing after it is touched, and nothing at all where there is no reply."
+unfoldable pub onto : Outcome → Effect → Outcome
+onto x e = outcomeAs (x .number) (measure (count (x .tally) (e .number)) (length (e .reply))) (e .after) (overlay (x .reply) (e .reply))
 
--- 3 to 8; 9 "not addressed"
+-- the blocks in order
+unfoldable pub runBlocks : Outcome → List Block → Outcome
+runBlocks x [] = x
+runBlocks x (k ∷ ks) = runBlocks (onto x (runBlock (x .after) k)) ks
+
+-- 3 to 8; 9 "not addressed"; else the blocks: "20 to 27 concern one block; the frame's number is 0."
 unfoldable pub runFrame : Board → List ℕ → Reading → Outcome
 runFrame b o (refused n) = untouched n b o
 runFrame b o (frame h bs) =
     if not (addressed (b .settings .own) (b .settings .address) h) then untouched 9 b o
-    else ran (runBlocks (state b o nothing) bs)
+    else runBlocks (untouched 0 b o) bs
 
 -- 1 "board not sound", 2 "reply buffer shorter than memory plus 64"
 unfoldable pub run : Board → List ℕ → List ℕ → Outcome

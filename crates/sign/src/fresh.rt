@@ -11,7 +11,8 @@ use buffers::copying::zero_at;
 use frame::is_own_type;
 use register::CLEARED;
 ghost use mathlib.Core.Path.{_≡_};
-ghost use Rattle.sign.specs.Fresh.{making, allZero, freshSettings, fresh, madeAs};
+ghost use Rattle.sign.specs.Fresh.{making, allZero, freshSettings, fresh};
+ghost use Rattle.sign.specs.InnerRunning.{madeAs};
 
 // "settings from 10 or 11 all zero"
 fn unmade(number: u8) -> Made

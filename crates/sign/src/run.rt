@@ -32,8 +32,8 @@ ghost use Rattle.reading.specs.Places.{isPrintable};
 ghost use Rattle.board.specs.Board.{board};
 ghost use Rattle.effects.specs.InnerLeaving.{Ready};
 ghost use Rattle.commands.specs.Blocks.{runBlock};
-ghost use Rattle.sign.specs.Run.{nothing, count, measure, state, onto, runBlocks, outcome, runFrame, run};
-ghost use Rattle.sign.specs.InnerRunning.{answerAs, stateAs, Runnable, Fileable, Leaves, Running, Framed};
+ghost use Rattle.sign.specs.Run.{nothing, count, measure, outcomeAs, outcome, untouched, onto, runBlocks, runFrame, run};
+ghost use Rattle.sign.specs.InnerRunning.{answerAs, soFar, Runnable, Fileable, Leaves, Running, Framed};
 
 // "reply buffer shorter than memory plus 64"
 const REPLY_ROOM: usize = 64;
@@ -134,7 +134,7 @@ fn special_one(
     out: &mut [u8],
 ) -> Ran
     requires { ⌜ Runnable s tally (now m) (now out) command ⌝ }
-    ensures { λ r. ⌜ stateAs r (now (m .exit)) (now (out .exit)) ≡ onto (state (board s (now (m .entry))) (now (out .entry)) tally) (runBlock (board s (now (m .entry))) (block command (now (text .entry)) true)) ⌝ }
+    ensures { λ r. ⌜ soFar r (now (m .exit)) (now (out .exit)) ≡ onto (outcomeAs 0 tally (board s (now (m .entry))) (now (out .entry))) (runBlock (board s (now (m .entry))) (block command (now (text .entry)) true)) ⌝ }
     ensures { λ r. ⌜ length (r .settings .places) ≡ 95 ⌝ }
 {
     let done = special_block(s, m, command, text, out);
@@ -172,7 +172,7 @@ fn file_one(
 // stay here: E and F are handed them, every other block their index and the register.
 fn run_blocks(s: Settings, m: &mut [u8], out: &mut [u8], t: &[u8], from: usize) -> Ran
     requires { ⌜ Running (board s (now m)) (now out) (now t) from ⌝ }
-    ensures { λ r. ⌜ stateAs r (now (m .exit)) (now (out .exit)) ≡ runBlocks (state (board s (now (m .entry))) (now (out .entry)) nothing) (blocksAt (now (t .entry)) from) ⌝ }
+    ensures { λ r. ⌜ soFar r (now (m .exit)) (now (out .exit)) ≡ runBlocks (untouched 0 (board s (now (m .entry))) (now (out .entry))) (blocksAt (now (t .entry)) from) ⌝ }
 {
     let mut at = from;
     let mut left: usize = BLOCKS;

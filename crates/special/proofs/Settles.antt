@@ -27,11 +27,10 @@ use Rattle.temperature.specs.Offset.{isSignedDigit, signedDigit}
 use Rattle.board.specs.Settings.{FORMAT-S, FORMAT-M, OFF, ON, inDate, withTime, withDate, withFormat, withSpeaker, withAddress, withOffset, cleared}
 use Rattle.board.specs.declared.Settings.{Settings}
 use Rattle.board.specs.Board.{board}
-use Rattle.effects.specs.Effects.{refuse}
+use Rattle.effects.specs.Effects.{refuse, change}
 use Rattle.configuration.specs.Configuration.{configure}
 use Rattle.special.specs.Special.{TIME, SPEAKER, CONFIGURATION, FORMAT, ADDRESS, DATE, OFFSET, CLEAR}
-use Rattle.special.specs.Special.{to, malformed, unknown, setTime, setSpeaker, setFormat, setDate, setAddress, setOffset, clearErrors, setBy, change, writeSpecial}
-use Rattle.effects.specs.InnerLeaving.{changing}
+use Rattle.special.specs.Special.{to, malformed, unknown, setTime, setSpeaker, setFormat, setDate, setAddress, setOffset, clearErrors, setBy, writeSpecial}
 use Rattle.effects.specs.declared.Changed.{Changed}
 
 -- data that are digits alone: b is the code's answer
@@ -243,12 +242,12 @@ module _ (s : Settings) (m : List ℕ) where
   write-none (l ∷ d) h = absurd (omega arith)
 
   module _ (text : List ℕ) (h : length text ≡ 0 → ⊥) (r : Changed) where
-    pub write-lists : text ! 0 ≡ CONFIGURATION → (a : List ℕ) → changing r a ≡ configure (board s m) (take (length text - 1) (drop 1 text)) →
-        changing r a ≡ writeSpecial (board s m) text
+    pub write-lists : text ! 0 ≡ CONFIGURATION → (a : List ℕ) → change (board s a) r ≡ configure (board s m) (take (length text - 1) (drop 1 text)) →
+        change (board s a) r ≡ writeSpecial (board s m) text
     write-lists k a e = e ∙ lists text h k
 
     pub write-sets : (text ! 0 ≡ CONFIGURATION → ⊥) → r ≡ setBy s (text ! 0) (take (length text - 1) (drop 1 text)) →
-        changing r m ≡ writeSpecial (board s m) text
-    write-sets k e = ap (λ (x : Changed). changing x m) e ∙ sets text h k
+        change (board s m) r ≡ writeSpecial (board s m) text
+    write-sets k e = ap (change (board s m)) e ∙ sets text h k
 
 pub ruleset writing = (write-none, write-lists, write-sets, needs)

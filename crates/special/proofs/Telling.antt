@@ -16,11 +16,11 @@ use Rattle.octets.specs.Bytes.{COMMA, ZERO, E, F}
 use Rattle.octets.specs.Hex.{inHex4}
 use Rattle.octets.specs.Decimal.{inDecimal2}
 use Rattle.octets.specs.Buffer.{splice}
-use Rattle.octets.proofs.Tests.{by-test, choice}
+use Rattle.octets.proofs.Tests.{by-test}
 use Rattle.octets.proofs.Buffers.{length-splice}
 use Rattle.octets.proofs.Ranges.{on}
 use Rattle.buffers.proofs.Splices.{splice-none, splice-next, splice-in, overlay-covers}
-use Rattle.board.specs.Settings.{ON, inRange, withErrors, cleared}
+use Rattle.board.specs.Settings.{ON, inRange, cleared}
 use Rattle.board.specs.Files.{taken, filesOf, heads, unused}
 use Rattle.board.specs.Soundness.{holdsFiles, sound}
 use Rattle.board.specs.declared.Settings.{Settings}

@@ -14,7 +14,7 @@ use Rattle.board.specs.Files.{heads}
 use Rattle.board.specs.Board.{Board, withSettings, filesOn}
 use Rattle.board.specs.declared.Settings.{Settings}
 use Rattle.effects.specs.Reply.{replyOf}
-use Rattle.effects.specs.Effects.{Effect, effect, replied, refuse}
+use Rattle.effects.specs.Effects.{Effect, replied, refuse, change}
 use Rattle.effects.specs.declared.Changed.{Changed}
 use Rattle.configuration.specs.Configuration.{configure}
 
@@ -121,10 +121,6 @@ setBy s label d =
     else if label is OFFSET then setOffset s d
     else if label is CLEAR then clearErrors s d
     else unknown s
-
--- what the board is then: its memory stays
-abbrev pub change : Board → Changed → Effect
-change b c = effect (c .number) (withSettings b (c .settings)) []
 
 -- E: "a known command without its label is 22"
 unfoldable pub writeSpecial : Board → List ℕ → Effect

@@ -42,8 +42,9 @@ ghost use Rattle.board.specs.Files.{filesOf, heads};
 ghost use Rattle.board.specs.Soundness.{holdsFiles, sound};
 ghost use Rattle.board.specs.Board.{board};
 ghost use Rattle.effects.specs.Reply.{replyRoom};
+ghost use Rattle.effects.specs.Effects.{change};
 ghost use Rattle.special.specs.Special.{setTime, setSpeaker, setFormat, setDate, setAddress, setOffset, clearErrors, setBy, writeSpecial, tellTime, tellDate, tellSpeaker, isTold, tell, afterTold, readSpecial};
-ghost use Rattle.effects.specs.InnerLeaving.{Told, changing, leftAs, leaving, Ready};
+ghost use Rattle.effects.specs.InnerLeaving.{Told, leftAs, leaving, Ready};
 
 // the function labels
 const TIME: u8 = 0x20;
@@ -251,7 +252,7 @@ fn set_by(s: Settings, label: u8, d: &[u8]) -> Changed
 // E: "a known command without its label is 22".
 pub fn write_special(s: Settings, m: &mut [u8], text: &[u8]) -> Changed
     requires { ⌜ sound (board s (now m)) ≡ true ⌝ }
-    ensures { λ r. ⌜ changing r (now (m .exit)) ≡ writeSpecial (board s (now (m .entry))) (now (text .entry)) ⌝ }
+    ensures { λ r. ⌜ change (board s (now (m .exit))) r ≡ writeSpecial (board s (now (m .entry))) (now (text .entry)) ⌝ }
 {
     if text.len() == 0 {
         return Changed {

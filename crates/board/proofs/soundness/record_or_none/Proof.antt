@@ -11,12 +11,6 @@ add-is-named c = search recording
 shared-slice-read-is-named-2 : tie.Need-shared-slice-read-is-named-2
 shared-slice-read-is-named-2 c = search recording
 
-add-is-named-2 : tie.Need-add-is-named-2
-add-is-named-2 c = search recording
-
-shared-slice-read-is-named-3 : tie.Need-shared-slice-read-is-named-3
-shared-slice-read-is-named-3 c = search recording
-
 is-named-requires : tie.Need-is-named-requires
 is-named-requires c κs = search recording
 
@@ -42,8 +36,6 @@ record-or-none-spec =
     shared-slice-read-is-named
     add-is-named
     shared-slice-read-is-named-2
-    add-is-named-2
-    shared-slice-read-is-named-3
     is-named-requires
     returns
     is-codes-requires
