@@ -72,7 +72,7 @@ int main(void)
     IS(counted("GSHELLO", 60), one);
     IS(counted("AZHELLO", 60), one);
     IS(counted("XHELLO", 60), one);
-    IS(counted("E'S_030000", 60), one);
+    IS(counted("E'S_030000", 1), one);
     IS(counted("BA", 1), one);
     IS(counted("HS", 1), one);
     /* E and F */

@@ -21,10 +21,9 @@ use Rattle.board.specs.declared.Settings.{Settings}
 use Rattle.effects.specs.Reply.{replyRoom}
 use Rattle.effects.specs.InnerLeaving.{Ready}
 use Rattle.sign.specs.Run.{nothing, outcome, untouched, runBlocks, runFrame, run}
-use Rattle.sign.specs.InnerRunning.{answerAs, soFar, Framed}
+use Rattle.sign.specs.InnerRunning.{answerAs, Framed}
 use Rattle.sign.specs.declared.Tally.{Tally}
 use Rattle.sign.specs.declared.Answer.{Answer}
-use Rattle.sign.specs.declared.run.Ran.{Ran}
 use Rattle.sign.proofs.RunLaws.{run-unsound, run-short}
 
 pub untouched-as : (n : ℕ) (s : Settings) (u : Tally) → u ≡ nothing → answerAs n u s ≡ answerAs n nothing s
@@ -38,10 +37,10 @@ module _ (s : Settings) (m o t : List ℕ) (i j : ℕ) (b : Bool) (e : b ≡ add
   frame-away y r q = rw (q, ← e, y)
 
   -- 0
-  pub frame-ran : not b ≡ false → (x : Ran) (m′ o′ : List ℕ) → soFar x m′ o′ ≡ runBlocks (untouched 0 (board s m) o) (blocksAt t j) →
-      outcome (answerAs 0 (x .tally) (x .settings)) m′ o′ ≡ runFrame (board s m) o (frame (part i j t) (blocksAt t j))
+  pub frame-ran : not b ≡ false → (r : Answer) (m′ o′ : List ℕ) → outcome r m′ o′ ≡ runBlocks (untouched 0 (board s m) o) (blocksAt t j) →
+      outcome r m′ o′ ≡ runFrame (board s m) o (frame (part i j t) (blocksAt t j))
   unfolding runFrame
-  frame-ran y x m′ o′ f = rw (← e, y) f
+  frame-ran y r m′ o′ f = rw (← e, y) f
 
 pub ruleset framing = (untouched-as, frame-away, frame-ran, needs)
 

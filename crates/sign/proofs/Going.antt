@@ -27,11 +27,11 @@ use Rattle.commands.specs.Blocks.{command, doBlock, runBlock}
 use Rattle.commands.specs.InnerDoing.{isSpecial, filing, Indexed, Files}
 use Rattle.commands.specs.declared.Filed.{Filed}
 use Rattle.keeping.proofs.Keeping.{block-keeps}
-use Rattle.sign.specs.Run.{nothing, count, measure, Outcome, outcomeAs, untouched, onto, runBlocks}
-use Rattle.sign.specs.InnerRunning.{soFar, Runnable, Fileable, Leaves, Running}
+use Rattle.sign.specs.Run.{nothing, count, measure, Outcome, outcomeAs, outcome, untouched, onto, runBlocks}
+use Rattle.sign.specs.InnerRunning.{Runnable, Fileable, Leaves, Running}
+use Rattle.sign.specs.declared.Answer.{Answer}
 use Rattle.sign.specs.declared.Tally.{Tally}
 use Rattle.sign.specs.declared.run.Noted.{Noted}
-use Rattle.sign.specs.declared.run.Ran.{Ran}
 
 -- ---- one block
 
@@ -149,13 +149,15 @@ module _ {b : Board} {o₀ t : List ℕ} {from : ℕ} {s : Settings} {u : Tally}
     pub going-stray : x ≡ Stray → outcomeAs 0 u (board s m) o ≡ runBlocks (untouched 0 b o₀) (blocksAt t from)
     going-stray h = never-bad (stray-blocks t at x e h left p)
 
+    -- the last block ends it
+    last-onto : (c i j : ℕ) (k : Bool) → x ≡ Last c i j k →
+        onto (outcomeAs 0 u (board s m) o) (runBlock (board s m) (block c (part i j t) k)) ≡ runBlocks (untouched 0 b o₀) (blocksAt t from)
+    unfolding runBlocks blocksIn
+    last-onto c i j k h = sym (ap (λ (y : Body). runBlocks (outcomeAs 0 u (board s m) o) (blocksIn y)) (last-blocks t at x e h left p)) ∙ g .same
+
     -- a block was run; s′, u′, m′ and o′ are what it left
     module _ (c i j : ℕ) (k : Bool) (s′ : Settings) (u′ : Tally) (m′ o′ : List ℕ)
         (f : outcomeAs 0 u′ (board s′ m′) o′ ≡ onto (outcomeAs 0 u (board s m) o) (runBlock (board s m) (block c (part i j t) k))) where
-      last : x ≡ Last c i j k → outcomeAs 0 u′ (board s′ m′) o′ ≡ runBlocks (untouched 0 b o₀) (blocksAt t from)
-      unfolding runBlocks blocksIn
-      last h = f ∙ sym (ap (λ (y : Body). runBlocks (outcomeAs 0 u (board s m) o) (blocksIn y)) (last-blocks t at x e h left p)) ∙ g .same
-
       module _ (n : ℕ) (h : x ≡ More c i j k n) where
         first : Block
         first = block c (part i j t) k
@@ -199,18 +201,20 @@ module _ {b : Board} {o₀ t : List ℕ} {from : ℕ} {s : Settings} {u : Tally}
             }
 
     -- E or F; y is the code's answer to that
-    module _ (c i j : ℕ) (k : Bool) (y : Bool) (q : y ≡ isSpecial c k) (z : y ≡ true) {r : Ran} {m′ o′ : List ℕ}
-        (f : soFar r m′ o′ ≡ onto (outcomeAs 0 u (board s m) o) (runBlock (board s m) (block c (part i j t) true))) where
-      right : soFar r m′ o′ ≡ onto (outcomeAs 0 u (board s m) o) (runBlock (board s m) (block c (part i j t) k))
+    module _ (c i j : ℕ) (k : Bool) (y : Bool) (q : y ≡ isSpecial c k) (z : y ≡ true) {r : Answer} {m′ o′ : List ℕ}
+        (f : outcome r m′ o′ ≡ onto (outcomeAs 0 u (board s m) o) (runBlock (board s m) (block c (part i j t) true))) where
+      right : outcome r m′ o′ ≡ onto (outcomeAs 0 u (board s m) o) (runBlock (board s m) (block c (part i j t) k))
       unfolding isSpecial
       right = f ∙ ap (λ (v : Bool). onto (outcomeAs 0 u (board s m) o) (runBlock (board s m) (block c (part i j t) v))) (sym (split k (sym q ∙ z) .0))
 
-      pub special-last : x ≡ Last c i j k → soFar r m′ o′ ≡ runBlocks (untouched 0 b o₀) (blocksAt t from)
-      special-last = last c i j k (r .settings) (r .tally) m′ o′ right
+      pub special-last : x ≡ Last c i j k → outcome r m′ o′ ≡ runBlocks (untouched 0 b o₀) (blocksAt t from)
+      special-last h = right ∙ last-onto c i j k h
 
       pub special-more : {n : ℕ} → x ≡ More c i j k n → length (r .settings .places) ≡ ENTRIES → length m′ ≡ length m → length o′ ≡ length o →
           Going b o₀ t from (r .settings) (r .tally) m′ o′ n (left - 1)
-      special-more {n} h = more c i j k (r .settings) (r .tally) m′ o′ right n h
+      unfolding onto
+      special-more {n} h =
+          more c i j k (r .settings) (r .tally) m′ o′ (ap (λ (y : Outcome). outcomeAs 0 (y .tally) (y .after) (y .reply)) right) n h
 
     -- any other
     module _ (c i j : ℕ) (k : Bool) {r : Noted} {m′ o′ : List ℕ} (f : Leaves (s .places) (s .errors) u m o (block c (part i j t) k) r m′ o′) where
@@ -218,7 +222,7 @@ module _ {b : Board} {o₀ t : List ℕ} {from : ℕ} {s : Settings} {u : Tally}
       left-on = f .on s indexed refl
 
       pub file-last : x ≡ Last c i j k → outcomeAs 0 (r .tally) (board (withErrors s (r .errors)) m′) o′ ≡ runBlocks (untouched 0 b o₀) (blocksAt t from)
-      file-last = last c i j k (withErrors s (r .errors)) (r .tally) m′ o′ left-on
+      file-last h = left-on ∙ last-onto c i j k h
 
       pub file-more : {n : ℕ} → x ≡ More c i j k n → length m′ ≡ length m → length o′ ≡ length o →
           Going b o₀ t from (withErrors s (r .errors)) (r .tally) m′ o′ n (left - 1)

@@ -14,12 +14,11 @@ use Rattle.effects.specs.Reply.{replyRoom}
 use Rattle.effects.specs.InnerLeaving.{Ready}
 use Rattle.commands.specs.Blocks.{runBlock}
 use Rattle.commands.specs.InnerDoing.{isSpecial, Indexed, OfBoard}
-use Rattle.sign.specs.Run.{Outcome, outcomeAs, onto}
+use Rattle.sign.specs.Run.{outcomeAs, onto}
 use Rattle.sign.specs.declared.Tally.{Tally}
 use Rattle.sign.specs.declared.Answer.{Answer}
 use Rattle.sign.specs.declared.Made.{Made}
 use Rattle.sign.specs.declared.run.Noted.{Noted}
-use Rattle.sign.specs.declared.run.Ran.{Ran}
 
 -- what the making of a fresh board answers
 abbrev pub madeAs : ℕ → Settings → Made
@@ -28,10 +27,6 @@ madeAs n s = record { number = n; settings = s }
 -- a run's answer
 abbrev pub answerAs : ℕ → Tally → Settings → Answer
 answerAs n t s = record { number = n; tally = t; settings = s }
-
--- counts and settings beside memory and reply buffer, behind blocks
-abbrev pub soFar : Ran → List ℕ → List ℕ → Outcome
-soFar r m o = outcomeAs 0 (r .tally) (board (r .settings) m) o
 
 -- E or F may be run: the board is ready, and fewer blocks than a frame has were run before
 pub record Runnable (s : Settings) (u : Tally) (m o : List ℕ) (code : ℕ) : Type 0 where

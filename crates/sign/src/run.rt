@@ -33,7 +33,7 @@ ghost use Rattle.board.specs.Board.{board};
 ghost use Rattle.effects.specs.InnerLeaving.{Ready};
 ghost use Rattle.commands.specs.Blocks.{runBlock};
 ghost use Rattle.sign.specs.Run.{nothing, count, measure, outcomeAs, outcome, untouched, onto, runBlocks, runFrame, run};
-ghost use Rattle.sign.specs.InnerRunning.{answerAs, soFar, Runnable, Fileable, Leaves, Running, Framed};
+ghost use Rattle.sign.specs.InnerRunning.{answerAs, Runnable, Fileable, Leaves, Running, Framed};
 
 // "reply buffer shorter than memory plus 64"
 const REPLY_ROOM: usize = 64;
@@ -42,12 +42,6 @@ const REPLY_ROOM: usize = 64;
 pub struct Noted {
     pub tally: Tally,
     pub errors: u8,
-}
-
-// The counts and the settings behind the blocks that were run.
-pub struct Ran {
-    pub tally: Tally,
-    pub settings: Settings,
 }
 
 impl Tally {
@@ -124,7 +118,7 @@ fn untouched(s: Settings, number: u8) -> Answer
     }
 }
 
-// E or F, and the counts with it; its number is noted in the register.
+// E or F, and the counts with it, as the answer so far; its number is noted in the register.
 fn special_one(
     s: Settings,
     tally: Tally,
@@ -132,15 +126,16 @@ fn special_one(
     command: u8,
     text: &[u8],
     out: &mut [u8],
-) -> Ran
+) -> Answer
     requires { ⌜ Runnable s tally (now m) (now out) command ⌝ }
-    ensures { λ r. ⌜ soFar r (now (m .exit)) (now (out .exit)) ≡ onto (outcomeAs 0 tally (board s (now (m .entry))) (now (out .entry))) (runBlock (board s (now (m .entry))) (block command (now (text .entry)) true)) ⌝ }
+    ensures { λ r. ⌜ outcome r (now (m .exit)) (now (out .exit)) ≡ onto (outcomeAs 0 tally (board s (now (m .entry))) (now (out .entry))) (runBlock (board s (now (m .entry))) (block command (now (text .entry)) true)) ⌝ }
     ensures { λ r. ⌜ length (r .settings .places) ≡ 95 ⌝ }
 {
     let done = special_block(s, m, command, text, out);
     let number = done.number;
     let next = done.settings;
-    Ran {
+    Answer {
+        number: 0,
         tally: tally.count(number).measure(done.length),
         settings: recorded(next, number),
     }
@@ -170,9 +165,9 @@ fn file_one(
 
 // The blocks in order, taken by the reader; a refused block changes nothing but the register, and the blocks behind it run. The settings
 // stay here: E and F are handed them, every other block their index and the register.
-fn run_blocks(s: Settings, m: &mut [u8], out: &mut [u8], t: &[u8], from: usize) -> Ran
+fn run_blocks(s: Settings, m: &mut [u8], out: &mut [u8], t: &[u8], from: usize) -> Answer
     requires { ⌜ Running (board s (now m)) (now out) (now t) from ⌝ }
-    ensures { λ r. ⌜ soFar r (now (m .exit)) (now (out .exit)) ≡ runBlocks (untouched 0 (board s (now (m .entry))) (now (out .entry))) (blocksAt (now (t .entry)) from) ⌝ }
+    ensures { λ r. ⌜ outcome r (now (m .exit)) (now (out .exit)) ≡ runBlocks (untouched 0 (board s (now (m .entry))) (now (out .entry))) (blocksAt (now (t .entry)) from) ⌝ }
 {
     let mut at = from;
     let mut left: usize = BLOCKS;
@@ -180,7 +175,11 @@ fn run_blocks(s: Settings, m: &mut [u8], out: &mut [u8], t: &[u8], from: usize) 
     let mut tally = Tally::none();
     while 0 < left {
         match step_from(t, at) {
-            BlockStep::Stray => return Ran { tally, settings },
+            BlockStep::Stray => return Answer {
+                number: 0,
+                tally,
+                settings,
+            },
             BlockStep::Last {
                 command,
                 from: i,
@@ -202,7 +201,11 @@ fn run_blocks(s: Settings, m: &mut [u8], out: &mut [u8], t: &[u8], from: usize) 
                 );
                 settings.errors = noted.errors;
                 tally = noted.tally;
-                return Ran { tally, settings };
+                return Answer {
+                    number: 0,
+                    tally,
+                    settings,
+                };
             }
             BlockStep::More {
                 command,
@@ -234,7 +237,11 @@ fn run_blocks(s: Settings, m: &mut [u8], out: &mut [u8], t: &[u8], from: usize) 
             }
         }
     }
-    Ran { tally, settings }
+    Answer {
+        number: 0,
+        tally,
+        settings,
+    }
 }
 
 // A frame that was read, on a sound board: 9, or its blocks.
@@ -252,14 +259,7 @@ fn run_frame(
     if !addressed(&t[header..from], s.own, s.address) {
         return untouched(s, NOT_ADDRESSED);
     }
-    let ran = run_blocks(s, m, out, t, from);
-    let tally = ran.tally;
-    let settings = ran.settings;
-    Answer {
-        number: 0,
-        tally,
-        settings,
-    }
+    run_blocks(s, m, out, t, from)
 }
 
 // Any frame on a sound board: a printable one needs a room for the bytes that it stands for.
