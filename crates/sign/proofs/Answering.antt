@@ -15,7 +15,7 @@ use Rattle.reading.specs.declared.Read.{Read}
 use Rattle.reading.specs.declared.Read.the-variants.{Refused, Standard, Printable}
 use Rattle.frame.proofs.Standing.{Standing, refused-reads, standard-stands, printable-stands, room-within, room-counts}
 use Rattle.frame.proofs.Standing.{bare-refused, bare-stands, bare-never}
-use Rattle.board.specs.Board.{board}
+use Rattle.board.specs.Board.{Board}
 use Rattle.board.specs.Soundness.{sound}
 use Rattle.board.specs.declared.Settings.{Settings}
 use Rattle.effects.specs.Reply.{replyRoom}
@@ -30,15 +30,16 @@ pub untouched-as : (n : ℕ) (s : Settings) (u : Tally) → u ≡ nothing → an
 untouched-as n s u e = ap (λ (x : Tally). answerAs n x s) e
 
 -- ---- a frame that was read
-module _ (s : Settings) (m o t : List ℕ) (i j : ℕ) (b : Bool) (e : b ≡ addressed (s .own) (s .address) (part i j t)) where
+module _ (b : Board) (o t : List ℕ) (i j : ℕ) (x : Bool) (e : x ≡ addressed (b .settings .own) (b .settings .address) (part i j t)) where
   -- 9
-  pub frame-away : not b ≡ true → (r : Answer) → r ≡ answerAs 9 nothing s → outcome r m o ≡ runFrame (board s m) o (frame (part i j t) (blocksAt t j))
+  pub frame-away : not x ≡ true → (r : Answer) → r ≡ answerAs 9 nothing (b .settings) → (m : List ℕ) → m ≡ b .memory →
+      outcome r m o ≡ runFrame b o (frame (part i j t) (blocksAt t j))
   unfolding runFrame
-  frame-away y r q = rw (q, ← e, y)
+  frame-away y r q m k = rw (q, k, ← e, y)
 
   -- 0
-  pub frame-ran : not b ≡ false → (r : Answer) (m′ o′ : List ℕ) → outcome r m′ o′ ≡ runBlocks (untouched 0 (board s m) o) (blocksAt t j) →
-      outcome r m′ o′ ≡ runFrame (board s m) o (frame (part i j t) (blocksAt t j))
+  pub frame-ran : not x ≡ false → (r : Answer) (m′ o′ : List ℕ) → outcome r m′ o′ ≡ runBlocks (untouched 0 b o) (blocksAt t j) →
+      outcome r m′ o′ ≡ runFrame b o (frame (part i j t) (blocksAt t j))
   unfolding runFrame
   frame-ran y r m′ o′ f = rw (← e, y) f
 
@@ -46,91 +47,92 @@ pub ruleset framing = (untouched-as, frame-away, frame-ran, needs)
 
 -- ---- a board that is ready
 
-module _ {s : Settings} {m o : List ℕ} (y : Ready (board s m) o) (f : List ℕ) where
+module _ {b : Board} {o : List ℕ} (y : Ready b o) (f : List ℕ) where
   -- where a frame stands in bytes t
-  parted : {t : List ℕ} {i j : ℕ} → Standing t i j (read f) → Framed (board s m) o t i j
+  parted : {t : List ℕ} {i j : ℕ} → Standing t i j (read f) → Framed b o t i j
   parted w = record { running = record { ready = y; good = w .good }; ordered = w .ordered; inside = w .inside }
 
   answered : {t : List ℕ} {i j : ℕ} → Standing t i j (read f) → (r : Answer) (m′ o′ : List ℕ) →
-      outcome r m′ o′ ≡ runFrame (board s m) o (frame (part i j t) (blocksAt t j)) → outcome r m′ o′ ≡ runFrame (board s m) o (read f)
-  answered w r m′ o′ q = q ∙ sym (ap (runFrame (board s m) o) (w .reads))
+      outcome r m′ o′ ≡ runFrame b o (frame (part i j t) (blocksAt t j)) → outcome r m′ o′ ≡ runFrame b o (read f)
+  answered w r m′ o′ q = q ∙ sym (ap (runFrame b o) (w .reads))
 
-  refuses : {n : ℕ} → read f ≡ refused n → (r : Answer) → r ≡ answerAs n nothing s → outcome r m o ≡ runFrame (board s m) o (read f)
+  refuses : {n : ℕ} → read f ≡ refused n → (r : Answer) → r ≡ answerAs n nothing (b .settings) → (m : List ℕ) → m ≡ b .memory → outcome r m o ≡ runFrame b o (read f)
   unfolding runFrame
-  refuses h r q = rw (q, h)
+  refuses h r q m k = rw (q, k, h)
 
   module _ {room after : List ℕ} {x : Read} (g : Reads f room x after) where
     -- 3 to 8
-    pub roomed-refused : {n : ℕ} → x ≡ Refused n → (r : Answer) → r ≡ answerAs n nothing s → outcome r m o ≡ runFrame (board s m) o (read f)
+    pub roomed-refused : {n : ℕ} → x ≡ Refused n → (r : Answer) → r ≡ answerAs n nothing (b .settings) → (m : List ℕ) → m ≡ b .memory → outcome r m o ≡ runFrame b o (read f)
     roomed-refused h = refuses (refused-reads g h)
 
     -- a standard frame
     module _ {i j : ℕ} (h : x ≡ Standard i j) where
-      pub standard-parted : Framed (board s m) o f i j
+      pub standard-parted : Framed b o f i j
       standard-parted = parted (standard-stands g h)
 
-      pub standard-ran : (r : Answer) (m′ o′ : List ℕ) → outcome r m′ o′ ≡ runFrame (board s m) o (frame (part i j f) (blocksAt f j)) →
-          outcome r m′ o′ ≡ runFrame (board s m) o (read f)
+      pub standard-ran : (r : Answer) (m′ o′ : List ℕ) → outcome r m′ o′ ≡ runFrame b o (frame (part i j f) (blocksAt f j)) →
+          outcome r m′ o′ ≡ runFrame b o (read f)
       standard-ran = answered (standard-stands g h)
 
     -- a printable one
     module _ {n i j : ℕ} (h : x ≡ Printable n i j) where
-      pub printable-parted : Framed (board s m) o (take n after) i j
+      pub printable-parted : Framed b o (take n after) i j
       printable-parted = parted (printable-stands g h)
 
       pub printable-ran : (r : Answer) (m′ o′ : List ℕ) →
-          outcome r m′ o′ ≡ runFrame (board s m) o (frame (part i j (take n after)) (blocksAt (take n after) j)) → outcome r m′ o′ ≡ runFrame (board s m) o (read f)
+          outcome r m′ o′ ≡ runFrame b o (frame (part i j (take n after)) (blocksAt (take n after) j)) → outcome r m′ o′ ≡ runFrame b o (read f)
       printable-ran = answered (printable-stands g h)
 
   -- the same without a room
   module _ (p : isPrintable f ≡ false) {x : Read} (e : x ≡ bareRead f) where
-    pub bare-none : {n : ℕ} → x ≡ Refused n → (r : Answer) → r ≡ answerAs n nothing s → outcome r m o ≡ runFrame (board s m) o (read f)
+    pub bare-none : {n : ℕ} → x ≡ Refused n → (r : Answer) → r ≡ answerAs n nothing (b .settings) → (m : List ℕ) → m ≡ b .memory → outcome r m o ≡ runFrame b o (read f)
     bare-none h = refuses (bare-refused f p e h)
 
     module _ {i j : ℕ} (h : x ≡ Standard i j) where
-      pub bare-parted : Framed (board s m) o f i j
+      pub bare-parted : Framed b o f i j
       bare-parted = parted (bare-stands f p e h)
 
-      pub bare-ran : (r : Answer) (m′ o′ : List ℕ) → outcome r m′ o′ ≡ runFrame (board s m) o (frame (part i j f) (blocksAt f j)) →
-          outcome r m′ o′ ≡ runFrame (board s m) o (read f)
+      pub bare-ran : (r : Answer) (m′ o′ : List ℕ) → outcome r m′ o′ ≡ runFrame b o (frame (part i j f) (blocksAt f j)) →
+          outcome r m′ o′ ≡ runFrame b o (read f)
       bare-ran = answered (bare-stands f p e h)
 
-    pub bare-nothing : {n i j : ℕ} → x ≡ Printable n i j → (r : Answer) → outcome r m o ≡ runFrame (board s m) o (read f)
-    bare-nothing h r = bare-never f p e h
+    pub bare-nothing : {n i j : ℕ} → x ≡ Printable n i j → (r : Answer) (m : List ℕ) → outcome r m o ≡ runFrame b o (read f)
+    bare-nothing h r m = bare-never f p e h
 
 pub ruleset readied =
     (roomed-refused, standard-parted, standard-ran, printable-parted, printable-ran, bare-none, bare-parted, bare-ran, bare-nothing, room-within, room-counts, needs)
 
 -- ---- a whole run
 
-module _ (s : Settings) (m o f : List ℕ) (b : Bool) (e : b ≡ sound (board s m)) where
+module _ (b : Board) (o f : List ℕ) (x : Bool) (e : x ≡ sound b) where
   -- 1
-  pub unsound-answered : not b ≡ true → (r : Answer) → r ≡ answerAs 1 nothing s → outcome r m o ≡ run (board s m) o f
-  unsound-answered y r q = ap (λ (x : Answer). outcome x m o) q ∙ sym (run-unsound (board s m) o f (sym e ∙ not-true b y))
+  pub unsound-answered : not x ≡ true → (r : Answer) → r ≡ answerAs 1 nothing (b .settings) → (m : List ℕ) → m ≡ b .memory → outcome r m o ≡ run b o f
+  unsound-answered y r q m k = rw (q, k) (sym (run-unsound b o f (sym e ∙ not-true x y)))
 
-  module _ (y : not b ≡ false) where
-    there : sound (board s m) ≡ true
-    there = sym e ∙ not-false b y
+  module _ (y : not x ≡ false) where
+    there : sound b ≡ true
+    there = sym e ∙ not-false x y
 
     -- 2
-    short : length o < length m + 64 → (length o <? replyRoom m) ≡ true
+    short : length o < length (b .memory) + 64 → (length o <? replyRoom (b .memory)) ≡ true
     unfolding replyRoom
-    short l = lt-ltb (length o) (length m + 64) l
+    short l = lt-ltb (length o) (length (b .memory) + 64) l
 
-    pub short-answered : length o < length m + 64 → (r : Answer) → r ≡ answerAs 2 nothing s → outcome r m o ≡ run (board s m) o f
-    short-answered l r q = ap (λ (x : Answer). outcome x m o) q ∙ sym (run-short (board s m) o f there (short l))
+    pub short-answered : length o < length (b .memory) + 64 → (r : Answer) → r ≡ answerAs 2 nothing (b .settings) → (m : List ℕ) → m ≡ b .memory →
+        outcome r m o ≡ run b o f
+    short-answered l r q m k = rw (q, k) (sym (run-short b o f there (short l)))
 
-    module _ (l : length m + 64 ≤ length o) where
-      wide : replyRoom m ≤ length o
+    module _ (l : length (b .memory) + 64 ≤ length o) where
+      wide : replyRoom (b .memory) ≤ length o
       unfolding replyRoom
       wide = l
 
-      pub run-ready : Ready (board s m) o
+      pub run-ready : Ready b o
       run-ready = record { sound = there; room = wide }
 
-      pub run-on : (r : Answer) (m′ o′ : List ℕ) → outcome r m′ o′ ≡ runFrame (board s m) o (read f) → outcome r m′ o′ ≡ run (board s m) o f
+      pub run-on : (r : Answer) (m′ o′ : List ℕ) → outcome r m′ o′ ≡ runFrame b o (read f) → outcome r m′ o′ ≡ run b o f
       unfolding run
-      run-on r m′ o′ q = q ∙ rw (← e, y, le-ltb (length o) (replyRoom m) wide)
+      run-on r m′ o′ q = q ∙ rw (← e, y, le-ltb (length o) (replyRoom (b .memory)) wide)
 
 pub run-other : (f : List ℕ) (t : Bool) → t ≡ isPrintable f → t ≡ false → isPrintable f ≡ false
 run-other f t e h = sym e ∙ h
