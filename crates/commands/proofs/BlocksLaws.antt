@@ -10,8 +10,7 @@ use Rattle.octets.specs.Bytes.{A, B, E, F, G, H}
 use Rattle.octets.proofs.Tests.{by-test, never}
 use Rattle.body.specs.Body.{block}
 use Rattle.board.specs.Files.{TEXT, STRING}
-use Rattle.board.specs.Board.{Board, board}
-use Rattle.board.specs.declared.Settings.{Settings}
+use Rattle.board.specs.Board.{Board, withSettings, withMemory}
 use Rattle.effects.specs.Effects.{Effect, refuse, change}
 use Rattle.effects.specs.InnerLeaving.{doneAs, leftAs, leaving}
 use Rattle.effects.specs.declared.Changed.{Changed}
@@ -28,18 +27,20 @@ pub special-told : (code : ℕ) (right : Bool) → (right && (code is E || code 
 unfolding isSpecial
 special-told code right = refl
 
-module _ (s : Settings) (m : List ℕ) (code : ℕ) (text out : List ℕ) where
-  pub get-special : code ≡ F → (r : Done) (out′ : List ℕ) → leftAs r m out′ ≡ leaving out (readSpecial (board s m) text) →
-      leftAs r m out′ ≡ leaving out (command (board s m) code text)
+module _ (b : Board) (code : ℕ) (text out : List ℕ) where
+  pub get-special : code ≡ F → (r : Done) (m out′ : List ℕ) → leftAs r m out′ ≡ leaving out (readSpecial b text) →
+      leftAs r m out′ ≡ leaving out (command b code text)
   unfolding command
-  get-special e r out′ q = rw e q
+  get-special e r m out′ q = rw e q
 
-  pub set-special : (code ≡ F → ⊥) → isSpecial code true ≡ true → (c : Changed) (m′ : List ℕ) → change (board s m′) c ≡ writeSpecial (board s m) text →
-      leftAs (doneAs (c .number) (c .settings) 0) m′ out ≡ leaving out (command (board s m) code text)
+  -- a is the board, its memory as it was left
+  pub set-special : (code ≡ F → ⊥) → isSpecial code true ≡ true → (c : Changed) (a : Board) → change a c ≡ writeSpecial b text →
+      (m : List ℕ) → m ≡ a .memory → leftAs (doneAs (c .number) (c .settings) 0) m out ≡ leaving out (command b code text)
   unfolding command isSpecial
-  set-special n t c m′ q =
-      left-quiet out _ (c .number) (board (c .settings) m′)
-      (q ∙ rw (eqb-true code E (only (code is E) (ne-eqb code F n) t)))
+  set-special n t c a q m k =
+      rw k
+      (left-quiet out _ (c .number) (withSettings a (c .settings))
+      (q ∙ rw (eqb-true code E (only (code is E) (ne-eqb code F n) t))))
     where
       only : (x : Bool) {y : Bool} → y ≡ false → (x || y) ≡ true → x ≡ true
       only true e f = refl
@@ -53,15 +54,15 @@ module _ (p m : List ℕ) (code : ℕ) (text out : List ℕ) (right : Bool) wher
   -- by an effect on each board
   as-answered : (e : Board → Effect) → ((b : Board) → e b ≡ filing (block code text right) b) → (r : Filed) (m′ out′ : List ℕ) →
       Files p m out e r m′ out′ → Files p m out (filing (block code text right)) r m′ out′
-  as-answered e q r m′ out′ x = record { on = λ s i. x .on s i ∙ ap (leaving out) (q (board s m)) }
+  as-answered e q r m′ out′ x = record { on = λ b i. x .on b i ∙ ap (leaving out) (q b) }
 
   as-put : (e : Board → Effect) → ((b : Board) → e b ≡ filing (block code text right) b) → (n : ℕ) (m′ : List ℕ) →
       Puts p m e n m′ → Files p m out (filing (block code text right)) (filedAs n 0) m′ out
-  as-put e q n m′ x = record { on = λ s i. left-quiet out _ n (board s m′) (x .on s i ∙ q (board s m)) }
+  as-put e q n m′ x = record { on = λ b i. left-quiet out _ n (withMemory b m′) (x .on b i ∙ q b) }
 
   as-refused : (n : ℕ) → ((b : Board) → refuse n b ≡ filing (block code text right) b) →
       Files p m out (filing (block code text right)) (filedAs n 0) m out
-  as-refused n q = record { on = λ s i. left-quiet out _ n (board s m) (q (board s m)) }
+  as-refused n q = record { on = λ b i. rw (← i .memory) (left-quiet out _ n b (q b)) }
 
   -- with a right sum
   module _ (w : not right ≡ false) where

@@ -15,7 +15,6 @@ use Rattle.octets.proofs.Places.{take-front, front-length}
 use Rattle.octets.proofs.Buffers.{length-splice}
 use Rattle.buffers.proofs.Splices.{splice-in, overlay-covers}
 use Rattle.board.specs.Index.{lookUp}
-use Rattle.board.specs.Board.{board}
 use Rattle.board.specs.declared.Found.{Found}
 use Rattle.board.specs.declared.Found.the-variants.{At, Nothing}
 use Rattle.effects.specs.Reply.{replyOf, replyRoom}
@@ -82,7 +81,7 @@ module _ {p m : List ℕ} (h : OfBoard p m) (label kind : ℕ) (f : Found) (a : 
   module _ (code : ℕ) (out : List ℕ) where
     pub get-none : f ≡ Nothing → Files p m out (getting code label kind) (filedAs 23 0) m out
     unfolding getting getContent
-    get-none e = record { on = λ s i. left-quiet out _ 23 (board s m) (rw (← found-on label kind f a s i, e)) }
+    get-none e = record { on = λ b i. rw (← i .memory) (left-quiet out _ 23 b (rw (← found-on label kind f a b i, e))) }
 
   module _ (start size : ℕ) (e : f ≡ At start size) where
     pub get-inside : start + size ≤ length m
@@ -97,19 +96,21 @@ module _ {p m : List ℕ} (h : OfBoard p m) (label kind : ℕ) (f : Found) (a : 
     get-done code out after last n k l t r =
         let d : start + size - start ≡ size = omega arith in
         let w = rw d at (replied-over m start size out l after n t code label last k r) in
-        record { on = λ s i. rw (← found-on label kind f a s i, e) (left-replied out (board s m) _ last k (w .0) (w .1)) }
+        record {
+          on = λ b i. rw (← found-on label kind f a b i, e, ← i .memory) (left-replied out b _ last k (rw (← i .memory) at (w .0)) (rw (← i .memory) at (w .1)));
+        }
 
 -- ---- the label alone
 
 module _ (p m : List ℕ) (kind code : ℕ) (text out : List ℕ) where
   pub read-not : (length text ≡ 1 → ⊥) → Files p m out (reading kind code text) (filedAs 22 0) m out
   unfolding reading readFile
-  read-not l = record { on = λ s i. left-quiet out _ 22 (board s m) (rw (ne-eqb (length text) 1 l)) }
+  read-not l = record { on = λ b i. rw (← i .memory) (left-quiet out _ 22 b (rw (ne-eqb (length text) 1 l))) }
 
   pub read-one : (r : Filed) (after : List ℕ) → length text ≡ 1 →
       Files p m out (getting code (text ! 0) kind) r m after →
       Files p m out (reading kind code text) r m after
   unfolding reading readFile getting
-  read-one r after l t = record { on = λ s i. t .on s i ∙ rw (eq-eqb (length text) 1 l) }
+  read-one r after l t = record { on = λ b i. t .on b i ∙ rw (eq-eqb (length text) 1 l) }
 
 pub ruleset gets = (told-inside, told-room, told-put, content-room, reply-room, of-within, get-none, get-inside, get-fits, get-done, read-not, read-one, needs)

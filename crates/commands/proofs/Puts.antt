@@ -28,12 +28,12 @@ hold-put m a b msg start size h p q =
 module _ {p m : List ℕ} (h : OfBoard p m) (label kind : ℕ) (f : Found) (a : f ≡ lookUp p m label kind) (msg : List ℕ) where
   pub put-none : f ≡ Nothing → Puts p m (putting label kind msg) 23 m
   unfolding putting putMessage
-  put-none e = record { on = λ s i. rw (← found-on label kind f a s i, e) }
+  put-none e = record { on = λ b i. rw (← found-on label kind f a b i, e, ← i .memory) }
 
   module _ (start size : ℕ) (e : f ≡ At start size) where
     pub put-long : size < length msg → Puts p m (putting label kind msg) 24 m
     unfolding putting putMessage
-    put-long l = record { on = λ s i. rw (← found-on label kind f a s i, e, lt-ltb size (length msg) l) }
+    put-long l = record { on = λ b i. rw (← found-on label kind f a b i, e, lt-ltb size (length msg) l, ← i .memory) }
 
     module _ (l : length msg ≤ size) where
       pub put-room : Room m start size msg
@@ -41,13 +41,13 @@ module _ {p m : List ℕ} (h : OfBoard p m) (label kind : ℕ) (f : Found) (a : 
 
       pub put-done : (m′ : List ℕ) → m′ ≡ holding m start size msg → Puts p m (putting label kind msg) 0 m′
       unfolding putting putMessage
-      put-done m′ q = record { on = λ s i. rw (← found-on label kind f a s i, e, le-ltb size (length msg) l, q) }
+      put-done m′ q = record { on = λ b i. rw (← found-on label kind f a b i, e, le-ltb size (length msg) l, q, ← i .memory) }
 
 -- the label, and the message behind it
 module _ (p m : List ℕ) (kind : ℕ) where
   pub write-none : (text : List ℕ) → length text ≡ 0 → Puts p m (writing kind text) 22 m
   unfolding writing writeFile
-  write-none [] l = record { on = λ s i. refl }
+  write-none [] l = record { on = λ b i. rw (← i .memory) }
   write-none (x ∷ text) l = absurd (omega arith)
 
   pub write-some : (text : List ℕ) → (length text ≡ 0 → ⊥) → (n : ℕ) (m′ : List ℕ) →
@@ -56,6 +56,6 @@ module _ (p m : List ℕ) (kind : ℕ) where
   unfolding writing writeFile putting
   write-some [] l n m′ x = absurd (l refl)
   write-some (y ∷ text) l n m′ x =
-      record { on = λ s i. x .on s i ∙ rw (take-all (length (y ∷ text) - 1) text (omega arith)) }
+      record { on = λ b i. x .on b i ∙ rw (take-all (length (y ∷ text) - 1) text (omega arith)) }
 
 pub ruleset puts = (hold-put, of-within, put-none, put-long, put-room, put-done, write-none, write-some, needs)

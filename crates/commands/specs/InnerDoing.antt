@@ -9,9 +9,8 @@ use Rattle.octets.specs.Choice.{if_then_else_, _is_}
 use Rattle.octets.specs.Bytes.{E, F}
 use Rattle.body.specs.Body.{Block}
 use Rattle.board.specs.Index.{ENTRIES}
-use Rattle.board.specs.Board.{Board, board}
+use Rattle.board.specs.Board.{Board, withMemory}
 use Rattle.board.specs.Soundness.{sound}
-use Rattle.board.specs.declared.Settings.{Settings}
 use Rattle.effects.specs.Effects.{Effect, effect, refuse}
 use Rattle.effects.specs.InnerLeaving.{left, leaving}
 use Rattle.commands.specs.Commands.{findOn, putMessage, writeFile, getContent, readFile}
@@ -27,16 +26,17 @@ pub record Room (m : List ℕ) (start size : ℕ) (message : List ℕ) : Type 0 
 unfoldable pub isSpecial : ℕ → Bool → Bool
 isSpecial c right = right && (c is E || c is F)
 
--- settings that make a sound board of this index and this memory
-pub record Indexed (p m : List ℕ) (s : Settings) : Type 0 where
-  pub index : s .places ≡ p
-  pub sound : sound (board s m) ≡ true
+-- a sound board of this index and this memory
+pub record Indexed (p m : List ℕ) (b : Board) : Type 0 where
+  pub index : b .settings .places ≡ p
+  pub memory : b .memory ≡ m
+  pub sound : sound b ≡ true
 
--- there are such settings
+-- there is one
 pub record OfBoard (p m : List ℕ) : Type 0 where
   pub long : length p ≡ ENTRIES
-  pub settings : Settings
-  pub indexed : Indexed p m settings
+  pub some : Board
+  pub indexed : Indexed p m some
 
 -- the effects of commands, of a board that is named last
 unfoldable pub putting : ℕ → ℕ → List ℕ → Board → Effect
@@ -61,8 +61,8 @@ filedAs n k = record { number = n; length = k }
 
 -- a write's number, and memory after it
 pub record Puts (p m : List ℕ) (e : Board → Effect) (n : ℕ) (m′ : List ℕ) : Type 0 where
-  pub on : (s : Settings) → Indexed p m s → effect n (board s m′) [] ≡ e (board s m)
+  pub on : (b : Board) → Indexed p m b → effect n (withMemory b m′) [] ≡ e b
 
 -- what a command answers that may reply, and memory and reply buffer after it
 pub record Files (p m o : List ℕ) (e : Board → Effect) (r : Filed) (m′ o′ : List ℕ) : Type 0 where
-  pub on : (s : Settings) → Indexed p m s → left (r .number) (board s m′) o′ (r .length) ≡ leaving o (e (board s m))
+  pub on : (b : Board) → Indexed p m b → left (r .number) (withMemory b m′) o′ (r .length) ≡ leaving o (e b)

@@ -1,5 +1,5 @@
 -- "$" as the code does it: put in capitals, then refused with its number, or all files replaced; and a board that was sound is sound then.
-use Prim.Native.Nat.{ℕ, _/_, _<_}
+use Prim.Native.Nat.{ℕ, _/_, _<_, _≤_}
 use mathlib.Core.Path.{_≡_, refl, sym, ap, _∙_}
 use mathlib.Core.List.{List}
 use mathlib.Core.Bool.{true}
@@ -33,34 +33,33 @@ use Rattle.configuration.proofs.Refusing.{accepted}
 
 -- ---- a list in capitals; k says why it is refused
 
-module _ (m l : List ℕ) (k : ℕ) (e : k ≡ refusal l (length m)) where
-  pub replace-not : (k ≡ 0 → ⊥) → (s : Settings) → refuse k (board s m) ≡ replace (board s m) l
+module _ (l : List ℕ) (room k : ℕ) (e : k ≡ refusal l room) where
+  pub replace-not : (k ≡ 0 → ⊥) → (b : Board) → room ≡ length (b .memory) → refuse k b ≡ replace b l
   unfolding replace
-  replace-not n s = rw (← e, ne-eqb k 0 n)
+  replace-not n b h = rw (← h, ← e, ne-eqb k 0 n)
 
   module _ (z : k ≡ 0) where
-    pub replace-listed : (s : Settings) → sound (board s m) ≡ true → Listed m l (length l / 11)
-    replace-listed s o =
-        let t = accepted l (length m) (sym e ∙ z) in
-        record { good = t .good; all = refl; room = t .fits; short = sound-most (board s m) o }
+    pub replace-listed : (m : List ℕ) → room ≡ length m → room ≤ 32768 → Listed m l (length l / 11)
+    replace-listed m h o =
+        let t = accepted l room (sym e ∙ z) in
+        record { good = t .good; all = refl; room = rw h at (t .fits); short = rw h at o }
 
     pub replace-count : Fits w8 (length l / 11)
-    replace-count = record { fits = omega (arith, records-of 64 l (accepted l (length m) (sym e ∙ z) .good) .0) }
+    replace-count = record { fits = omega (arith, records-of 64 l (accepted l room (sym e ∙ z) .good) .0) }
 
-    pub replace-done : (m₁ : List ℕ) (a : Kept) → Laid m l (length l / 11) m₁ a → (s t : Settings) →
-        t ≡ withFiles s (length l / 11) (a .unused) (a .places) → done (board t m₁) ≡ replace (board s m) l
+    pub replace-done : (m m₁ : List ℕ) (a : Kept) → Laid m l (length l / 11) m₁ a → (b : Board) → m ≡ b .memory → room ≡ length m → (t : Settings) →
+        t ≡ withFiles (b .settings) (length l / 11) (a .unused) (a .places) → done (board t m₁) ≡ replace b l
     unfolding replace replaced
-    replace-done m₁ a g s t j = rw (← e, eq-eqb k 0 z, j, g .left, g .noted, g .stored)
+    replace-done m m₁ a g b i h t j = rw (← i, ← h, ← e, eq-eqb k 0 z, j, g .left, g .noted, g .stored, ← h)
 
-pub ruleset replacing = (replace-not, replace-listed, replace-count, replace-done, needs)
+pub ruleset replacing = (replace-not, replace-listed, replace-count, replace-done, sound-most, needs)
 
 -- ---- the list that a frame carries
 
 -- one that has no room in capitals
-pub list-long : (s : Settings) (m d : List ℕ) → 704 < length d → refuse 25 (board s m) ≡ configure (board s m) d
+pub list-long : (b : Board) (d : List ℕ) → 704 < length d → refuse 25 b ≡ configure b d
 unfolding configure
-list-long s m d h =
-    replace-not m (listCapitals d) 25 (sym (long-refused d (length m) h)) (λ z. omega arith) s
+list-long b d h = replace-not (listCapitals d) (length (b .memory)) 25 (sym (long-refused d (length (b .memory)) h)) (λ z. omega arith) b refl
 
 -- its capitals are put at the start of a room o
 module _ (d o a : List ℕ) (p : a ≡ overlay o (listCapitals d)) where
@@ -72,10 +71,9 @@ module _ (d o a : List ℕ) (p : a ≡ overlay o (listCapitals d)) where
   list-part = sym (ap length list-there ∙ capitals-length 0 d)
 
   -- they do what the list does
-  pub list-done : (s : Settings) (m : List ℕ) (r : Changed) (m₁ : List ℕ) → change (board s m₁) r ≡ replace (board s m) (take (length d) a) →
-      change (board s m₁) r ≡ configure (board s m) d
+  pub list-done : (b after : Board) (r : Changed) → change after r ≡ replace b (take (length d) a) → change after r ≡ configure b d
   unfolding configure
-  list-done s m r m₁ g = g ∙ ap (replace (board s m)) list-there
+  list-done b after r g = g ∙ ap (replace b) list-there
 
 pub ruleset listed = (list-long, list-part, list-done, needs)
 

@@ -16,7 +16,7 @@ use Rattle.body.specs.declared.BlockStep.the-variants.{Stray, More, Last}
 use Rattle.frame.proofs.Stepping.{stray-blocks, more-ordered, more-inside, more-plain, more-blocks, last-ordered, last-inside, last-blocks, none-blocks}
 use Rattle.board.specs.Settings.{withErrors}
 use Rattle.board.specs.Index.{ENTRIES}
-use Rattle.board.specs.Board.{Board, board, withSettings}
+use Rattle.board.specs.Board.{Board, board, withSettings, withMemory}
 use Rattle.board.specs.Soundness.{sound}
 use Rattle.board.specs.declared.Settings.{Settings}
 use Rattle.effects.specs.Recording.{faultNoted, withFault}
@@ -56,14 +56,14 @@ unfolding onto runBlock leaving
 onto-left b o u k n a o′ l e =
     ap (λ (x : Left). outcomeAs 0 (measure (count u (x .number)) (x .length)) (withSettings (x .after) (withFault (x .after .settings) (x .number))) (x .buffer)) e
 
--- E or F, by what it answered
-module _ (s : Settings) (u : Tally) (m o : List ℕ) (code : ℕ) (text : List ℕ) where
-  pub special-onto : (x : Done) (m′ o′ : List ℕ) → leftAs x m′ o′ ≡ leaving o (command (board s m) code text) → (s′ : Settings) → s′ ≡ withFault (x .settings) (x .number) →
-      (v : Tally) → v ≡ count u (x .number) → (w : Tally) → w ≡ measure v (x .length) →
-      outcomeAs 0 w (board s′ m′) o′ ≡ onto (outcomeAs 0 u (board s m) o) (runBlock (board s m) (block code text true))
-  unfolding doBlock
-  special-onto x m′ o′ g s′ h v p w q =
-      rw (q, p, h) (onto-left (board s m) o u (block code text true) (x .number) (board (x .settings) m′) o′ (x .length) g)
+-- E or F, by what it answered; m′ and o′ are memory and reply buffer as it left them
+pub special-onto : (b : Board) (u : Tally) (o : List ℕ) (code : ℕ) (text : List ℕ) (x : Done) (m′ o′ : List ℕ) →
+    leftAs x m′ o′ ≡ leaving o (command b code text) → (s : Settings) → s ≡ withFault (x .settings) (x .number) →
+    (v : Tally) → v ≡ count u (x .number) → (w : Tally) → w ≡ measure v (x .length) →
+    outcomeAs 0 w (board s m′) o′ ≡ onto (outcomeAs 0 u b o) (runBlock b (block code text true))
+unfolding doBlock
+special-onto b u o code text x m′ o′ g s h v p w q =
+    rw (q, p, h) (onto-left b o u (block code text true) (x .number) (board (x .settings) m′) o′ (x .length) g)
 
 -- any other block
 pub file-leaves : (p : List ℕ) (errors : ℕ) (u : Tally) (m o : List ℕ) (k : Block) (x : Filed) (m′ o′ : List ℕ) → isSpecial (k .command) (k .right) ≡ false →
@@ -73,8 +73,7 @@ pub file-leaves : (p : List ℕ) (errors : ℕ) (u : Tally) (m o : List ℕ) (k 
 unfolding filing
 file-leaves p errors u m o k x m′ o′ n f e h v a w q =
     record {
-      on = λ s i g.
-          rw (q, a, h, ← g) (onto-left (board s m) o u k (x .number) (board s m′) o′ (x .length) (rw n at (f .on s i)));
+      on = λ b i g. rw (q, a, h, ← g) (onto-left b o u k (x .number) (withMemory b m′) o′ (x .length) (rw n at (f .on b i)));
     }
 
 pub ruleset one-more = (special-onto, file-leaves, needs)
@@ -93,21 +92,21 @@ blocks-behind k (body bs) h = refl
 
 -- ---- the blocks
 
--- settings, counts, memory and reply buffer so far, the place of the next block and how many may stand from there on:
+-- the board, the counts and the reply buffer so far, the place of the next block and how many may stand from there on:
 -- the board is ready, a good body stands there, and running it leaves what running the whole body leaves
-pub record Going (b : Board) (o₀ t : List ℕ) (from : ℕ) (s : Settings) (u : Tally) (m o : List ℕ) (at left : ℕ) : Type 0 where
-  pub ready : Ready (board s m) o
-  pub entries : length (s .places) ≡ ENTRIES
+pub record Going (b₀ : Board) (o₀ t : List ℕ) (from : ℕ) (b : Board) (u : Tally) (o : List ℕ) (at left : ℕ) : Type 0 where
+  pub ready : Ready b o
+  pub entries : length (b .settings .places) ≡ ENTRIES
   pub few : u .done + u .refused + left ≡ BLOCKS
-  pub long : length m ≡ length (b .memory)
+  pub long : length (b .memory) ≡ length (b₀ .memory)
   pub wide : length o ≡ length o₀
   pub good : isBody (blocks left (drop at t)) ≡ true
-  pub same : runBlocks (outcomeAs 0 u (board s m) o) (blocksIn (blocks left (drop at t))) ≡ runBlocks (untouched 0 b o₀) (blocksAt t from)
+  pub same : runBlocks (outcomeAs 0 u b o) (blocksIn (blocks left (drop at t))) ≡ runBlocks (untouched 0 b₀ o₀) (blocksAt t from)
 
-pub going-start : {s : Settings} {m o t : List ℕ} {from : ℕ} → Running (board s m) o t from → length (s .places) ≡ ENTRIES → (u : Tally) → u ≡ nothing →
-    Going (board s m) o t from s u m o from BLOCKS
+pub going-start : {b : Board} {o t : List ℕ} {from : ℕ} → Running b o t from → length (b .settings .places) ≡ ENTRIES → (u : Tally) → u ≡ nothing →
+    Going b o t from b u o from BLOCKS
 unfolding bodyAt blocksAt
-going-start {s} {m} {o} {t} {from} g l u e =
+going-start {b} {o} {t} {from} g l u e =
     record {
       ready = g .ready;
       entries = l;
@@ -115,83 +114,83 @@ going-start {s} {m} {o} {t} {from} g l u e =
       long = refl;
       wide = refl;
       good = g .good;
-      same = ap (λ (y : Tally). runBlocks (outcomeAs 0 y (board s m) o) (blocksAt t from)) e;
+      same = ap (λ (y : Tally). runBlocks (outcomeAs 0 y b o) (blocksAt t from)) e;
     }
 
-module _ {b : Board} {o₀ t : List ℕ} {from : ℕ} {s : Settings} {u : Tally} {m o : List ℕ} {at left : ℕ} (g : Going b o₀ t from s u m o at left) where
-  -- the board before the block, and its index
-  indexed : Indexed (s .places) m s
-  indexed = record { index = refl; sound = g .ready .sound }
+module _ {b₀ : Board} {o₀ t : List ℕ} {from : ℕ} {b : Board} {u : Tally} {o : List ℕ} {at left : ℕ} (g : Going b₀ o₀ t from b u o at left) where
+  indexed : Indexed (b .settings .places) (b .memory) b
+  indexed = record { index = refl; memory = refl; sound = g .ready .sound }
 
-  pub going-special : 0 < left → (c : ℕ) (k x : Bool) → x ≡ isSpecial c k → x ≡ true → Runnable s u m o c
+  pub going-special : 0 < left → (c : ℕ) (k x : Bool) → x ≡ isSpecial c k → x ≡ true → Runnable b u o c
   unfolding isSpecial
-  going-special p c k x e h =
-      record { ready = g .ready; few = omega arith; special = split k (sym e ∙ h) .1 }
+  going-special p c k x e h = record { ready = g .ready; few = omega arith; special = split k (sym e ∙ h) .1 }
 
-  pub going-file : 0 < left → (c : ℕ) (k x : Bool) → x ≡ isSpecial c k → x ≡ false → Fileable (s .places) u m o c k
-  going-file p c k x e h =
-      record {
-        board = record { long = g .entries; settings = s; indexed = indexed };
+  pub going-file : 0 < left → (c : ℕ) (k x : Bool) → x ≡ isSpecial c k → x ≡ false → (p m : List ℕ) → p ≡ b .settings .places → m ≡ b .memory →
+      Fileable p u m o c k
+  going-file l c k x e h p m y z =
+      rw (y, z)
+      (record {
+        board = record { long = g .entries; some = b; indexed = indexed };
         room = g .ready .room;
         few = omega arith;
         other = sym e ∙ h;
-      }
+      })
 
   -- a good body is no bad one
   never-bad : {X : Type 0} → blocks left (drop at t) ≡ badBody → X
   unfolding isBody
   never-bad h = never (sym (sym (ap isBody h) ∙ g .good))
 
-  pub going-end : left ≤ 0 → outcomeAs 0 u (board s m) o ≡ runBlocks (untouched 0 b o₀) (blocksAt t from)
+  pub going-end : left ≤ 0 → outcomeAs 0 u b o ≡ runBlocks (untouched 0 b₀ o₀) (blocksAt t from)
   going-end p = never-bad (none-blocks (drop at t) left p)
 
   module _ (p : 0 < left) (x : BlockStep) (e : x ≡ foundAt t at) where
-    pub going-stray : x ≡ Stray → outcomeAs 0 u (board s m) o ≡ runBlocks (untouched 0 b o₀) (blocksAt t from)
+    pub going-stray : x ≡ Stray → outcomeAs 0 u b o ≡ runBlocks (untouched 0 b₀ o₀) (blocksAt t from)
     going-stray h = never-bad (stray-blocks t at x e h left p)
 
-    -- the last block ends it
-    last-onto : (c i j : ℕ) (k : Bool) → x ≡ Last c i j k →
-        onto (outcomeAs 0 u (board s m) o) (runBlock (board s m) (block c (part i j t) k)) ≡ runBlocks (untouched 0 b o₀) (blocksAt t from)
-    unfolding runBlocks blocksIn
-    last-onto c i j k h = sym (ap (λ (y : Body). runBlocks (outcomeAs 0 u (board s m) o) (blocksIn y)) (last-blocks t at x e h left p)) ∙ g .same
+    module _ (c i j : ℕ) (k : Bool) where
+      abbrev here : Block
+      here = block c (part i j t) k
 
-    -- a block was run; s′, u′, m′ and o′ are what it left
-    module _ (c i j : ℕ) (k : Bool) (s′ : Settings) (u′ : Tally) (m′ o′ : List ℕ)
-        (f : outcomeAs 0 u′ (board s′ m′) o′ ≡ onto (outcomeAs 0 u (board s m) o) (runBlock (board s m) (block c (part i j t) k))) where
-      module _ (n : ℕ) (h : x ≡ More c i j k n) where
-        first : Block
-        first = block c (part i j t) k
+      -- the last block ends it
+      last-onto : x ≡ Last c i j k → onto (outcomeAs 0 u b o) (runBlock b here) ≡ runBlocks (untouched 0 b₀ o₀) (blocksAt t from)
+      unfolding runBlocks blocksIn
+      last-onto h = sym (ap (λ (y : Body). runBlocks (outcomeAs 0 u b o) (blocksIn y)) (last-blocks t at x e h left p)) ∙ g .same
 
+      -- behind another, b′, u′ and o′ are what it left
+      module _ (b′ : Board) (u′ : Tally) (o′ : List ℕ) (f : outcomeAs 0 u′ b′ o′ ≡ onto (outcomeAs 0 u b o) (runBlock b here))
+          (n : ℕ) (h : x ≡ More c i j k n) where
         rest : Body
         rest = blocks (left - 1) (drop n t)
 
-        here : blocks left (drop at t) ≡ prepend first rest
-        unfolding first rest
-        here = more-blocks t at x e h left p
+        whole : blocks left (drop at t) ≡ prepend here rest
+        unfolding rest
+        whole = more-blocks t at x e h left p
 
         rest-good : isBody rest ≡ true
-        rest-good = good-behind first rest (sym (ap isBody here) ∙ g .good)
+        rest-good = good-behind here rest (sym (ap isBody whole) ∙ g .good)
 
-        ahead : runBlocks (onto (outcomeAs 0 u (board s m) o) (runBlock (board s m) first)) (blocksIn rest)
-            ≡ runBlocks (outcomeAs 0 u (board s m) o) (blocksIn (blocks left (drop at t)))
+        ahead : runBlocks (onto (outcomeAs 0 u b o) (runBlock b here)) (blocksIn rest)
+            ≡ runBlocks (outcomeAs 0 u b o) (blocksIn (blocks left (drop at t)))
         unfolding runBlocks
         ahead =
-            sym (ap (λ (y : Body). runBlocks (outcomeAs 0 u (board s m) o) (blocksIn y)) here
-            ∙ ap (runBlocks (outcomeAs 0 u (board s m) o)) (blocks-behind first rest rest-good))
+            sym (ap (λ (y : Body). runBlocks (outcomeAs 0 u b o) (blocksIn y)) whole
+            ∙ ap (runBlocks (outcomeAs 0 u b o)) (blocks-behind here rest rest-good))
 
-        sound-after : sound (board s′ m′) ≡ true
-        unfolding first onto
-        sound-after = ap (λ (y : Outcome). sound (y .after)) f ∙ block-keeps (board s m) first .sound (more-plain t at x e h) (g .ready .sound)
+        sound-after : sound b′ ≡ true
+        unfolding onto
+        sound-after = ap (λ (y : Outcome). sound (y .after)) f ∙ block-keeps b here .sound (more-plain t at x e h) (g .ready .sound)
 
-        more : length (s′ .places) ≡ ENTRIES → length m′ ≡ length m → length o′ ≡ length o → Going b o₀ t from s′ u′ m′ o′ n (left - 1)
-        unfolding first rest onto
+        more : length (b′ .settings .places) ≡ ENTRIES → length (b′ .memory) ≡ length (b .memory) → length o′ ≡ length o →
+            Going b₀ o₀ t from b′ u′ o′ n (left - 1)
+        unfolding rest onto
         more ls lm lo =
-            let z = runBlock (board s m) first in
+            let z = runBlock b here in
             let total : u′ .done + u′ .refused ≡ u .done + u .refused + 1 =
             ap (λ (y : Outcome). y .tally .done + y .tally .refused) f
             ∙ measure-total (count u (z .number)) (length (z .reply)) ∙ count-total u (z .number) in
             record {
-              ready = record { sound = sound-after; room = rw lo (room-as m m′ lm (g .ready .room)) };
+              ready = record { sound = sound-after; room = rw lo (room-as (b .memory) (b′ .memory) lm (g .ready .room)) };
               entries = ls;
               few = omega arith;
               long = lm ∙ g .long;
@@ -200,32 +199,33 @@ module _ {b : Board} {o₀ t : List ℕ} {from : ℕ} {s : Settings} {u : Tally}
               same = ap (λ (y : Outcome). runBlocks y (blocksIn rest)) f ∙ ahead ∙ g .same;
             }
 
-    -- E or F; y is the code's answer to that
-    module _ (c i j : ℕ) (k : Bool) (y : Bool) (q : y ≡ isSpecial c k) (z : y ≡ true) {r : Answer} {m′ o′ : List ℕ}
-        (f : outcome r m′ o′ ≡ onto (outcomeAs 0 u (board s m) o) (runBlock (board s m) (block c (part i j t) true))) where
-      right : outcome r m′ o′ ≡ onto (outcomeAs 0 u (board s m) o) (runBlock (board s m) (block c (part i j t) k))
-      unfolding isSpecial
-      right = f ∙ ap (λ (v : Bool). onto (outcomeAs 0 u (board s m) o) (runBlock (board s m) (block c (part i j t) v))) (sym (split k (sym q ∙ z) .0))
+      -- E or F; y is the code's answer to that
+      module _ (y : Bool) (q : y ≡ isSpecial c k) (z : y ≡ true) {r : Answer} {m′ o′ : List ℕ}
+          (f : outcome r m′ o′ ≡ onto (outcomeAs 0 u b o) (runBlock b (block c (part i j t) true))) where
+        right : outcome r m′ o′ ≡ onto (outcomeAs 0 u b o) (runBlock b here)
+        unfolding isSpecial
+        right = f ∙ ap (λ (v : Bool). onto (outcomeAs 0 u b o) (runBlock b (block c (part i j t) v))) (sym (split k (sym q ∙ z) .0))
 
-      pub special-last : x ≡ Last c i j k → outcome r m′ o′ ≡ runBlocks (untouched 0 b o₀) (blocksAt t from)
-      special-last h = right ∙ last-onto c i j k h
+        pub special-last : x ≡ Last c i j k → outcome r m′ o′ ≡ runBlocks (untouched 0 b₀ o₀) (blocksAt t from)
+        special-last h = right ∙ last-onto h
 
-      pub special-more : {n : ℕ} → x ≡ More c i j k n → length (r .settings .places) ≡ ENTRIES → length m′ ≡ length m → length o′ ≡ length o →
-          Going b o₀ t from (r .settings) (r .tally) m′ o′ n (left - 1)
-      unfolding onto
-      special-more {n} h =
-          more c i j k (r .settings) (r .tally) m′ o′ (ap (λ (y : Outcome). outcomeAs 0 (y .tally) (y .after) (y .reply)) right) n h
+        pub special-more : {n : ℕ} → x ≡ More c i j k n → length (r .settings .places) ≡ ENTRIES → length m′ ≡ length (b .memory) → length o′ ≡ length o →
+            Going b₀ o₀ t from (board (r .settings) m′) (r .tally) o′ n (left - 1)
+        unfolding onto
+        special-more {n} h =
+            more (board (r .settings) m′) (r .tally) o′ (ap (λ (v : Outcome). outcomeAs 0 (v .tally) (v .after) (v .reply)) right) n h
 
-    -- any other
-    module _ (c i j : ℕ) (k : Bool) {r : Noted} {m′ o′ : List ℕ} (f : Leaves (s .places) (s .errors) u m o (block c (part i j t) k) r m′ o′) where
-      left-on : outcomeAs 0 (r .tally) (board (withErrors s (r .errors)) m′) o′ ≡ onto (outcomeAs 0 u (board s m) o) (runBlock (board s m) (block c (part i j t) k))
-      left-on = f .on s indexed refl
+      -- any other; s is the settings with another register
+      module _ {r : Noted} {m′ o′ : List ℕ} (f : Leaves (b .settings .places) (b .settings .errors) u (b .memory) o (block c (part i j t) k) r m′ o′)
+          (s : Settings) (y : s ≡ withErrors (b .settings) (r .errors)) where
+        left-on : outcomeAs 0 (r .tally) (board s m′) o′ ≡ onto (outcomeAs 0 u b o) (runBlock b here)
+        left-on = rw y (f .on b indexed refl)
 
-      pub file-last : x ≡ Last c i j k → outcomeAs 0 (r .tally) (board (withErrors s (r .errors)) m′) o′ ≡ runBlocks (untouched 0 b o₀) (blocksAt t from)
-      file-last h = left-on ∙ last-onto c i j k h
+        pub file-last : x ≡ Last c i j k → outcomeAs 0 (r .tally) (board s m′) o′ ≡ runBlocks (untouched 0 b₀ o₀) (blocksAt t from)
+        file-last h = left-on ∙ last-onto h
 
-      pub file-more : {n : ℕ} → x ≡ More c i j k n → length m′ ≡ length m → length o′ ≡ length o →
-          Going b o₀ t from (withErrors s (r .errors)) (r .tally) m′ o′ n (left - 1)
-      file-more {n} h = more c i j k (withErrors s (r .errors)) (r .tally) m′ o′ left-on n h (g .entries)
+        pub file-more : {n : ℕ} → x ≡ More c i j k n → length m′ ≡ length (b .memory) → length o′ ≡ length o →
+            Going b₀ o₀ t from (board s m′) (r .tally) o′ n (left - 1)
+        file-more {n} h = more (board s m′) (r .tally) o′ left-on n h (rw y (g .entries))
 
 pub ruleset going = (going-start, going-special, going-file, going-end, going-stray, special-last, special-more, file-last, file-more, more-ordered, more-inside, last-ordered, last-inside, needs)

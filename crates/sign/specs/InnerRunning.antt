@@ -8,7 +8,7 @@ use Rattle.octets.specs.Bytes.{BLOCKS}
 use Rattle.body.specs.Body.{Block}
 use Rattle.body.specs.Steps.{bodyAt}
 use Rattle.board.specs.Settings.{withErrors}
-use Rattle.board.specs.Board.{Board, board}
+use Rattle.board.specs.Board.{Board, withSettings, withMemory}
 use Rattle.board.specs.declared.Settings.{Settings}
 use Rattle.effects.specs.Reply.{replyRoom}
 use Rattle.effects.specs.InnerLeaving.{Ready}
@@ -29,8 +29,8 @@ abbrev pub answerAs : ℕ → Tally → Settings → Answer
 answerAs n t s = record { number = n; tally = t; settings = s }
 
 -- E or F may be run: the board is ready, and fewer blocks than a frame has were run before
-pub record Runnable (s : Settings) (u : Tally) (m o : List ℕ) (code : ℕ) : Type 0 where
-  pub ready : Ready (board s m) o
+pub record Runnable (b : Board) (u : Tally) (o : List ℕ) (code : ℕ) : Type 0 where
+  pub ready : Ready b o
   pub few : u .done + u .refused < BLOCKS
   pub special : isSpecial code true ≡ true
 
@@ -43,8 +43,8 @@ pub record Fileable (p : List ℕ) (u : Tally) (m o : List ℕ) (code : ℕ) (ri
 
 -- what that leaves of every sound board of this index, this memory and this register: another register, memory, reply buffer, counts
 pub record Leaves (p : List ℕ) (errors : ℕ) (u : Tally) (m o : List ℕ) (k : Block) (r : Noted) (m′ o′ : List ℕ) : Type 0 where
-  pub on : (s : Settings) → Indexed p m s → s .errors ≡ errors →
-      outcomeAs 0 (r .tally) (board (withErrors s (r .errors)) m′) o′ ≡ onto (outcomeAs 0 u (board s m) o) (runBlock (board s m) k)
+  pub on : (b : Board) → Indexed p m b → b .settings .errors ≡ errors →
+      outcomeAs 0 (r .tally) (withMemory (withSettings b (withErrors (b .settings) (r .errors))) m′) o′ ≡ onto (outcomeAs 0 u b o) (runBlock b k)
 
 -- a good body stands at a place, and the board is ready
 pub record Running (b : Board) (o t : List ℕ) (from : ℕ) : Type 0 where

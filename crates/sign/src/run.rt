@@ -127,7 +127,7 @@ fn special_one(
     text: &[u8],
     out: &mut [u8],
 ) -> Answer
-    requires { ⌜ Runnable s tally (now m) (now out) command ⌝ }
+    requires { ⌜ Runnable (board s (now m)) tally (now out) command ⌝ }
     ensures { λ r. ⌜ outcome r (now (m .exit)) (now (out .exit)) ≡ onto (outcomeAs 0 tally (board s (now (m .entry))) (now (out .entry))) (runBlock (board s (now (m .entry))) (block command (now (text .entry)) true)) ⌝ }
     ensures { λ r. ⌜ length (r .settings .places) ≡ 95 ⌝ }
 {

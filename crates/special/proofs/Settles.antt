@@ -26,7 +26,7 @@ use Rattle.temperature.proofs.OffsetLaws.{two-long, second-digit}
 use Rattle.temperature.specs.Offset.{isSignedDigit, signedDigit}
 use Rattle.board.specs.Settings.{FORMAT-S, FORMAT-M, OFF, ON, inDate, withTime, withDate, withFormat, withSpeaker, withAddress, withOffset, cleared}
 use Rattle.board.specs.declared.Settings.{Settings}
-use Rattle.board.specs.Board.{board}
+use Rattle.board.specs.Board.{Board}
 use Rattle.effects.specs.Effects.{refuse, change}
 use Rattle.configuration.specs.Configuration.{configure}
 use Rattle.special.specs.Special.{TIME, SPEAKER, CONFIGURATION, FORMAT, ADDRESS, DATE, OFFSET, CLEAR}
@@ -223,31 +223,31 @@ pub ruleset labelled = (set-labelled, set-none, needs)
 behind-label : (l : ℕ) (d : List ℕ) → take (length (l ∷ d) - 1) (drop 1 (l ∷ d)) ≡ d
 behind-label l d = take-all (length (l ∷ d) - 1) d (omega arith)
 
--- by the definitions first
-module _ (s : Settings) (m : List ℕ) where
-  lists : (text : List ℕ) → (length text ≡ 0 → ⊥) → text ! 0 ≡ CONFIGURATION → configure (board s m) (take (length text - 1) (drop 1 text)) ≡ writeSpecial (board s m) text
+module _ (b : Board) where
+  -- by the definitions
+  lists : (text : List ℕ) → (length text ≡ 0 → ⊥) → text ! 0 ≡ CONFIGURATION → configure b (take (length text - 1) (drop 1 text)) ≡ writeSpecial b text
   unfolding writeSpecial
   lists [] h k = absurd (h refl)
   lists (l ∷ d) h k = rw (k, behind-label l d)
 
   sets : (text : List ℕ) → (length text ≡ 0 → ⊥) → (text ! 0 ≡ CONFIGURATION → ⊥) →
-      change (board s m) (setBy s (text ! 0) (take (length text - 1) (drop 1 text))) ≡ writeSpecial (board s m) text
+      change b (setBy (b .settings) (text ! 0) (take (length text - 1) (drop 1 text))) ≡ writeSpecial b text
   unfolding writeSpecial
   sets [] h k = absurd (h refl)
   sets (l ∷ d) h k = rw (ne-eqb l CONFIGURATION k, behind-label l d)
 
-  pub write-none : (text : List ℕ) → length text ≡ 0 → refuse 22 (board s m) ≡ writeSpecial (board s m) text
+  pub write-none : (text : List ℕ) → length text ≡ 0 → refuse 22 b ≡ writeSpecial b text
   unfolding writeSpecial
   write-none [] h = refl
   write-none (l ∷ d) h = absurd (omega arith)
 
-  module _ (text : List ℕ) (h : length text ≡ 0 → ⊥) (r : Changed) where
-    pub write-lists : text ! 0 ≡ CONFIGURATION → (a : List ℕ) → change (board s a) r ≡ configure (board s m) (take (length text - 1) (drop 1 text)) →
-        change (board s a) r ≡ writeSpecial (board s m) text
-    write-lists k a e = e ∙ lists text h k
+  -- a is the board, its memory as it was left
+  module _ (text : List ℕ) (h : length text ≡ 0 → ⊥) (r : Changed) (a : Board) where
+    pub write-lists : text ! 0 ≡ CONFIGURATION → change a r ≡ configure b (take (length text - 1) (drop 1 text)) → change a r ≡ writeSpecial b text
+    write-lists k e = e ∙ lists text h k
 
-    pub write-sets : (text ! 0 ≡ CONFIGURATION → ⊥) → r ≡ setBy s (text ! 0) (take (length text - 1) (drop 1 text)) →
-        change (board s m) r ≡ writeSpecial (board s m) text
-    write-sets k e = ap (change (board s m)) e ∙ sets text h k
+    pub write-sets : (text ! 0 ≡ CONFIGURATION → ⊥) → r ≡ setBy (b .settings) (text ! 0) (take (length text - 1) (drop 1 text)) → a ≡ b →
+        change a r ≡ writeSpecial b text
+    write-sets k e f = rw (e, f) (sets text h k)
 
 pub ruleset writing = (write-none, write-lists, write-sets, needs)

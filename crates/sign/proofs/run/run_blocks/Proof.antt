@@ -4,7 +4,7 @@ use Rattle.sign.proofs.run.run_blocks.Statement.{statement}
 use Rattle.sign.proofs.run.run_blocks.Tie as tie
 
 abbrev Inv-loop : tie.InvT-loop
-Inv-loop m₀ out₀ t from at₀ left₀ settings₀ tally₀ m out at left settings tally = Going (board settings₀ m₀) out₀ t from settings tally m out at left
+Inv-loop m₀ out₀ t from at₀ left₀ settings₀ tally₀ m out at left settings tally = Going (board settings₀ m₀) out₀ t from (board settings m) tally out at left
 
 abbrev μ-loop : tie.MeasureT-loop
 μ-loop m₀ out₀ t from at₀ left₀ settings₀ tally₀ m out at left settings tally = left
