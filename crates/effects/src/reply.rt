@@ -13,7 +13,11 @@ ghost use mathlib.Core.Path.{_≡_};
 ghost use Prim.Native.Nat.{_+_, _≤_};
 ghost use lib.ListN.{length, take, drop};
 ghost use Rattle.octets.specs.Buffer.{splice, overlay};
+ghost use Rattle.effects.specs.Reply.{replyRoom};
 ghost use Rattle.effects.specs.InnerLeaving.{replyLead, replyTail, Replied};
+
+// "reply buffer shorter than memory plus 64"
+const REPLY_ROOM: usize = 64;
 
 // "20 NUL"
 const NULS: usize = 20;
@@ -25,6 +29,14 @@ pub const DATA: usize = 27;
 
 // the bytes behind the data
 const TAIL: usize = 6;
+
+// What a run asks of its reply buffer.
+pub fn reply_room(m: &[u8]) -> usize
+    requires { ⌜ length (now m) ≤ 32768 ⌝ }
+    ensures { λ r. ⌜ r ≡ replyRoom (now (m .entry)) ⌝ }
+{
+    m.len() + REPLY_ROOM
+}
 
 // What stands before the data: "20 NUL, SOH, "000", STX, the write code (A, G or E), label".
 fn put_lead(out: &mut [u8], code: u8, label: u8)

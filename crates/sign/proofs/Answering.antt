@@ -1,12 +1,12 @@
 -- What a run answers, case by case.
-use Prim.Native.Nat.{ℕ, _+_, _<_, _≤_}
+use Prim.Native.Nat.{ℕ, _<_, _≤_}
 use mathlib.Core.Path.{_≡_, sym, ap, _∙_}
 use mathlib.Core.Bool.{Bool, true, false, not}
 use mathlib.Core.List.{List}
 use borrow.Author.Needs.{needs}
 use borrow.Author.Tests.{lt-ltb, le-ltb, not-true, not-false}
 use lib.ListN.{length, take}
-use Rattle.octets.specs.Choice.{_<?_, part}
+use Rattle.octets.specs.Choice.{part}
 use Rattle.header.specs.Addressing.{addressed}
 use Rattle.body.specs.Steps.{blocksAt}
 use Rattle.reading.specs.Reading.{refused, frame, read}
@@ -18,6 +18,7 @@ use Rattle.frame.proofs.Standing.{bare-refused, bare-stands, bare-never}
 use Rattle.board.specs.Board.{Board}
 use Rattle.board.specs.Soundness.{sound}
 use Rattle.board.specs.declared.Settings.{Settings}
+use Rattle.board.proofs.Inside.{sound-most}
 use Rattle.effects.specs.Reply.{replyRoom}
 use Rattle.effects.specs.InnerLeaving.{Ready}
 use Rattle.sign.specs.Run.{nothing, outcome, untouched, runBlocks, runFrame, run}
@@ -113,28 +114,24 @@ module _ (b : Board) (o f : List ℕ) (x : Bool) (e : x ≡ sound b) where
     there : sound b ≡ true
     there = sym e ∙ not-false x y
 
-    -- 2
-    short : length o < length (b .memory) + 64 → (length o <? replyRoom (b .memory)) ≡ true
-    unfolding replyRoom
-    short l = lt-ltb (length o) (length (b .memory) + 64) l
+    pub memory-short : (m : List ℕ) → m ≡ b .memory → length m ≤ 32768
+    memory-short m k = rw k (sound-most b there)
 
-    pub short-answered : length o < length (b .memory) + 64 → (r : Answer) → r ≡ answerAs 2 nothing (b .settings) → (m : List ℕ) → m ≡ b .memory →
-        outcome r m o ≡ run b o f
-    short-answered l r q m k = rw (q, k) (sym (run-short b o f there (short l)))
+    -- n is the room that is asked for
+    module _ (n : ℕ) (h : n ≡ replyRoom (b .memory)) where
+      -- 2
+      pub short-answered : length o < n → (r : Answer) → r ≡ answerAs 2 nothing (b .settings) → (m : List ℕ) → m ≡ b .memory → outcome r m o ≡ run b o f
+      short-answered l r q m k = rw (q, k) (sym (run-short b o f there (rw (← h) (lt-ltb (length o) n l))))
 
-    module _ (l : length (b .memory) + 64 ≤ length o) where
-      wide : replyRoom (b .memory) ≤ length o
-      unfolding replyRoom
-      wide = l
+      module _ (l : n ≤ length o) where
+        pub run-ready : Ready b o
+        run-ready = record { sound = there; room = rw h at l }
 
-      pub run-ready : Ready b o
-      run-ready = record { sound = there; room = wide }
-
-      pub run-on : (r : Answer) (m′ o′ : List ℕ) → outcome r m′ o′ ≡ runFrame b o (read f) → outcome r m′ o′ ≡ run b o f
-      unfolding run
-      run-on r m′ o′ q = q ∙ rw (← e, y, le-ltb (length o) (replyRoom (b .memory)) wide)
+        pub run-on : (r : Answer) (m′ o′ : List ℕ) → outcome r m′ o′ ≡ runFrame b o (read f) → outcome r m′ o′ ≡ run b o f
+        unfolding run
+        run-on r m′ o′ q = q ∙ rw (← e, y, ← h, le-ltb (length o) n l)
 
 pub run-other : (f : List ℕ) (t : Bool) → t ≡ isPrintable f → t ≡ false → isPrintable f ≡ false
 run-other f t e h = sym e ∙ h
 
-pub ruleset answering = (unsound-answered, short-answered, run-ready, run-on, run-other, needs)
+pub ruleset answering = (unsound-answered, memory-short, short-answered, run-ready, run-on, run-other, needs)

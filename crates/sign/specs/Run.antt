@@ -50,7 +50,7 @@ outcomeAs n t b o = record { number = n; tally = t; after = b; reply = o }
 abbrev pub outcome : Answer → List ℕ → List ℕ → Outcome
 outcome r m o = outcomeAs (r .number) (r .tally) (board (r .settings) m) o
 
--- "1 to 9: board and buffers untouched, everything else returned is 0."
+-- "1 to 9: board and buffers untouched, everything else returned is 0."; with 0, a run before its first block
 abbrev pub untouched : ℕ → Board → List ℕ → Outcome
 untouched n b o = outcomeAs n nothing b o
 

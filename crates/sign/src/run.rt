@@ -11,6 +11,7 @@ use commands::blocks::is_special;
 use commands::blocks::special_block;
 use effects::recording::fault_noted;
 use effects::recording::recorded;
+use effects::reply::reply_room;
 use frame::BlockStep;
 use frame::Read;
 use frame::addressed;
@@ -34,9 +35,6 @@ ghost use Rattle.effects.specs.InnerLeaving.{Ready};
 ghost use Rattle.commands.specs.Blocks.{runBlock};
 ghost use Rattle.sign.specs.Run.{nothing, count, measure, outcomeAs, outcome, untouched, onto, runBlocks, runFrame, run};
 ghost use Rattle.sign.specs.InnerRunning.{answerAs, Runnable, Fileable, Leaves, Running, Framed};
-
-// "reply buffer shorter than memory plus 64"
-const REPLY_ROOM: usize = 64;
 
 // The counts and the register behind a block that leaves the other settings.
 pub struct Noted {
@@ -308,7 +306,7 @@ pub fn run(s: Settings, m: &mut [u8], out: &mut [u8], bytes: &[u8]) -> Answer
     if !sound(s, m) {
         return untouched(s, NOT_SOUND);
     }
-    if out.len() < m.len() + REPLY_ROOM {
+    if out.len() < reply_room(m) {
         return untouched(s, REPLY_TOO_SHORT);
     }
     if is_printable(bytes) {

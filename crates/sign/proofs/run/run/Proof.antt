@@ -14,8 +14,8 @@ same-length c = search answering
 returns : tie.Need-returns
 returns c = search answering
 
-add-if2 : tie.Need-add-if2
-add-if2 c = search answering
+reply-room-requires : tie.Need-reply-room-requires
+reply-room-requires c κs = search answering
 
 untouched-requires-2 : tie.Need-untouched-requires-2
 untouched-requires-2 c κs = search answering
@@ -42,7 +42,7 @@ returns-3 : tie.Need-returns-3
 returns-3 c = search answering
 
 run-bare-requires : tie.Need-run-bare-requires
-run-bare-requires c κs = search answering
+run-bare-requires c κs = (search answering, search answering)
 
 same-length-5 : tie.Need-same-length-5
 same-length-5 c = search answering
@@ -61,7 +61,7 @@ run-spec =
     untouched-requires
     same-length
     returns
-    add-if2
+    reply-room-requires
     untouched-requires-2
     same-length-2
     returns-2
