@@ -76,11 +76,13 @@ int main(void)
     IS(counted("BA", 1), one);
     IS(counted("HS", 1), one);
     /* E and F */
-    static const char *const sets[] = {"E 1234", "E!00", "E'S", "E;022804", "E700", "ET+2", "E4", "E 9999", "E$AAU0040FF00SBL00080000"};
+    static const char *const sets[] = {"E 1234", "E!00", "E'S", "E;022804", "E700", "ET+2", "E4", "E 9999"};
     for (size_t i = 0; i < sizeof sets / sizeof sets[0]; i++)
         at_most(sets[i], counted(sets[i], 61) - counted(sets[i], 1), 60 * 4);
+    static const char list[] = "E$AAU0040FF00SBL00080000";
+    at_most(list, counted(list, 61) - counted(list, 1), 60 * 3);
     static const char *const tells[] = {"F ", "F!", "F'", "F;", "F$", "F#", "F*"};
     for (size_t i = 0; i < sizeof tells / sizeof tells[0]; i++)
-        at_most(tells[i], counted(tells[i], 1), one + 4);
+        at_most(tells[i], counted(tells[i], 1), one + 3);
     return faults != 0;
 }
