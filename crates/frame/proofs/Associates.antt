@@ -8,6 +8,7 @@ use lib.ListN.{length, length-append}
 use Rattle.octets.specs.Choice.{isByte, all}
 use Rattle.octets.proofs.Tests.{or-out-right}
 use Rattle.octets.proofs.Lists.{same-self}
+use Rattle.header.specs.Addressing.{starts}
 use Rattle.body.specs.Body.{Block, hasRead}
 use Rattle.reading.specs.Reading.{frame, read}
 use Rattle.reading.specs.Capitals.{inCapitals}
@@ -34,11 +35,11 @@ pub record FromRight (j k : ℕ) (f g e o o′ : List ℕ) : Type 0 where
 -- ---- the same
 
 turned : (k : ℕ) (f e fg ge o h : List ℕ) (bs cs ds : List Block) → checked (inCapitals (read f)) ≡ frame h bs → checked (inCapitals (read e)) ≡ frame h ds
-    → checked (inCapitals (read fg)) ≡ frame h (bs ++ cs) → checked (inCapitals (read ge)) ≡ frame h (cs ++ ds) → hasRead bs ≡ false → hasRead cs ≡ false
+    → checked (inCapitals (read fg)) ≡ frame h (bs ++ cs) → checked (inCapitals (read ge)) ≡ frame h (cs ++ ds) → starts h ≡ false → hasRead bs ≡ false → hasRead cs ≡ false
     → join k fg e o ≡ join k f ge o
 unfolding join putJoined
-turned k f e fg ge o h bs cs ds p q r s m n =
-    rw (p, q, r, s) (rw (same-self h, hasRead-append bs cs) (rw (m, n, append-assoc bs cs ds)))
+turned k f e fg ge o h bs cs ds p q r s t m n =
+    rw (p, q, r, s) (rw (same-self h, hasRead-append bs cs) (rw (t, m, n, append-assoc bs cs ds)))
 
 module _ (i j : ℕ) (f g e o₁ o₂ : List ℕ) (a : all isByte f ≡ true) (b : all isByte g ≡ true) (c : all isByte e ≡ true)
     (z₁ : join i f g o₁ .answer .number ≡ 0) (z₂ : join j g e o₂ .answer .number ≡ 0) where
@@ -58,7 +59,7 @@ module _ (i j : ℕ) (f g e o₁ o₂ : List ℕ) (a : all isByte f ≡ true) (b
       let r : checked (inCapitals (read fg)) ≡ frame h (x .first ++ x .second) = written-right i h (x .first ++ x .second) (join i f g o₁) (x .result) in
       let s : checked (inCapitals (read ge)) ≡ frame h (x .second ++ y .second) =
       rw (eh, eb) at (written-right j (y .header) (y .first ++ y .second) (join j g e o₂) (y .result)) in
-      turned k f e fg ge o h (x .first) (x .second) (y .second) p q r s (x .calm) (rw eb at (y .calm))
+      turned k f e fg ge o h (x .first) (x .second) (y .second) p q r s (x .ordinary) (x .calm) (rw eb at (y .calm))
 
 -- three frames joined in a form, from the left or from the right, whatever the form of what is joined first: the same bytes
 pub join-associative : (i j k : ℕ) (f g e o₁ o₂ o₃ o₄ : List ℕ) → all isByte f ≡ true → all isByte g ≡ true → all isByte e ≡ true
@@ -80,7 +81,7 @@ join-roomy : (k : ℕ) (f g o o′ : List ℕ) → join k f g o .answer .number 
 join-roomy k f g o o′ z r =
     let w = join-only-if k f g o z in
     join-succeeds k f g o′ (w .header) (w .first) (w .second) (w .form) (w .one .reads) (w .other .reads)
-    (w .one .right) (w .other .right) (w .calm) (w .within) r
+    (w .one .right) (w .other .right) (w .ordinary) (w .calm) (w .within) r
 
 module _ (k : ℕ) (f g e o₁ o₂ o₃ o₄ : List ℕ) (a : all isByte f ≡ true) (b : all isByte g ≡ true) (c : all isByte e ≡ true) where
   -- joined from the left, then also from the right, in buffers of 24,576 bytes
@@ -101,7 +102,7 @@ module _ (k : ℕ) (f g e o₁ o₂ o₃ o₄ : List ℕ) (a : all isByte f ≡ 
       let n : hasRead cs ≡ false = or-out-right (hasRead bs) (hasRead cs) (rw (eb, hasRead-append bs cs) at (w .calm)) in
       let some : 1 ≤ length (cs ++ ds) = rw length-append (omega (arith, some-blocks g h cs (x .other .reads))) in
       let z : join k g e o₂ .answer .number ≡ 0 =
-      join-succeeds k g e o₂ h cs ds (w .form) (x .other .reads) third (x .other .right) (w .other .right) n
+      join-succeeds k g e o₂ h cs ds (w .form) (x .other .reads) third (x .other .right) (w .other .right) (x .ordinary) n
       (over-second k bs (cs ++ ds) (some-blocks f h bs (x .one .reads)) some h v) r₂ in
       let t = join-turned k k f g e o₁ o₂ a b c (l .inner) z k o₄ in
       record { inner = z; outer = sym (ap (λ y. y .answer .number) t) ∙ join-roomy k fg e o₃ o₄ (l .outer) r₄ }
@@ -123,7 +124,7 @@ module _ (k : ℕ) (f g e o₁ o₂ o₃ o₄ : List ℕ) (a : all isByte f ≡ 
       let v : isOver k h (bs ++ cs ++ ds) ≡ false = rw (eh, eb, ← append-assoc bs cs ds) at (w .within) in
       let some : 1 ≤ length (bs ++ cs) = rw length-append (omega (arith, some-blocks g h cs (y .one .reads))) in
       let z : join k f g o₁ .answer .number ≡ 0 =
-      join-succeeds k f g o₁ h bs cs (w .form) one (y .one .reads) (w .one .right) (y .one .right) (w .calm)
+      join-succeeds k f g o₁ h bs cs (w .form) one (y .one .reads) (w .one .right) (y .one .right) (y .ordinary) (w .calm)
       (over-first k (bs ++ cs) ds some (some-blocks e h ds (y .other .reads)) h v) r₁ in
       let t = join-turned k k f g e o₁ o₂ a b c z (r .inner) k o₃ in
       record { inner = z; outer = ap (λ y. y .answer .number) t ∙ join-roomy k f ge o₄ o₃ (r .outer) r₃ }

@@ -123,6 +123,7 @@ join-reads k f g o a b z =
       second = cs;
       one = w .one;
       other = w .other;
+      ordinary = w .ordinary;
       calm = w .calm;
       result =
           put-holds k h (bs ++ cs) o 128 (p .header) (capitals-none (read f) h bs (w .one .reads)) (blocks-append isByte 64 64 bs cs (p .blocks) (q .blocks))

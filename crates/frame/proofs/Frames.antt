@@ -6,10 +6,10 @@ use mathlib.Core.List.{List}
 use Prim.Native.Nat.{ℕ, _≤_}
 use lib.ListN.{length}
 use Rattle.octets.specs.Bytes.{BLOCKS, isPlain}
-use Rattle.header.specs.Addressing.{addressed}
+use Rattle.header.specs.Addressing.{addressed, starts}
 use Rattle.header.specs.Header.{isHeader}
 use Rattle.header.specs.Capitals.{headerCapitals}
-use Rattle.header.proofs.CapitalsLaws.{addressed-same}
+use Rattle.header.proofs.CapitalsLaws.{addressed-same, starts-same}
 use Rattle.body.specs.Body.{Block, readNotLast}
 use Rattle.body.proofs.Plain.{BlocksOf}
 use Rattle.body.proofs.WellFormed.{anything}
@@ -47,3 +47,7 @@ capitals-twice = capitals-again
 -- a board is addressed alike by a header and its capitals
 pub addressed-alike : (h : List ℕ) (own address : ℕ) → addressed own address (headerCapitals h) ≡ addressed own address h
 addressed-alike = addressed-same
+
+-- and they have one type
+pub starts-alike : (h : List ℕ) → starts (headerCapitals h) ≡ starts h
+starts-alike = starts-same

@@ -1,24 +1,33 @@
 -- The second demand, over what the calls promise: whatever write, re-form and join answer and leave, a result reads back as it should.
 -- A promise is an equation, x ≡ write k h c d o: x is the answer beside the output buffer as the call leaves it.
 use mathlib.Core.Path.{_≡_, sym, ap, _∙_, subst}
-use mathlib.Core.Bool.{true}
+use mathlib.Core.Bool.{true, false}
 use mathlib.Core.List.{List, [], _∷_}
+use mathlib.Core.Logic.{_⊎_, ⊎-elim}
 use Prim.Native.Nat.{ℕ}
 use Rattle.octets.specs.Choice.{isByte, all}
+use Rattle.octets.proofs.Lists.{same-self}
+use Rattle.header.specs.Addressing.{starts}
 use Rattle.header.specs.Capitals.{headerCapitals, noSmall}
-use Rattle.header.proofs.CapitalsLaws.{header-own}
+use Rattle.header.proofs.CapitalsLaws.{header-own, starts-same}
 use Rattle.body.specs.Body.{Block, block}
 use Rattle.reading.specs.Reading.{frame, read}
 use Rattle.reading.specs.Capitals.{inCapitals}
-use Rattle.writing.specs.Output.{Output}
+use Rattle.writing.specs.Output.{Output, isForm, unwritten}
 use Rattle.writing.specs.Writing.{write}
 use Rattle.writing.specs.Reforming.{reform}
-use Rattle.writing.specs.Joining.{join}
-use Rattle.frame.specs.Results.{resultOf, Carries, Joined}
+use Rattle.writing.specs.Joining.{putJoined, join}
+use Rattle.frame.specs.Results.{resultOf, Carries, Sure, Joined}
 use Rattle.frame.specs.Joinable.{Joinable}
-use Rattle.frame.proofs.Succeeds.{join-if, join-only-if}
-use Rattle.frame.proofs.Delivered.{write-reads, join-reads}
+use Rattle.frame.proofs.Succeeds.{checked-right, join-if, join-only-if}
+use Rattle.frame.proofs.Delivered.{write-reads, join-reads, same-header}
 use Rattle.frame.proofs.Again.{reform-keeps}
+
+-- what is read has the type that it has in capitals
+ordinary : (s h g : List ℕ) (bs cs : List Block) → read s ≡ frame h bs → inCapitals (read s) ≡ frame g cs → starts g ≡ false → starts h ≡ false
+unfolding inCapitals
+ordinary s h g bs cs r c t =
+    sym (starts-same h) ∙ ap starts (same-header s (headerCapitals h) g bs cs (ap inCapitals r) c) ∙ t
 
 module _ (x : Output) where
   zero-of : (y : Output) → x ≡ y → x .answer .number ≡ 0 → y .answer .number ≡ 0
@@ -59,3 +68,18 @@ module _ (x : Output) where
   -- and never when it does
   pub joins-only : (k : ℕ) (f g o : List ℕ) → x ≡ join k f g o → x .answer .number ≡ 0 → Joinable k f g o
   joins-only k f g o e z = join-only-if k f g o (zero-of (join k f g o) e z)
+
+  -- request 11, "joining refuses it": 19, where no reason before it is there, with the output buffer untouched
+  pub start-refused : (k : ℕ) (f g o h : List ℕ) (bs cs : List Block) → isForm k ≡ true → Sure f h bs → Sure g h cs → starts h ≡ true
+      → x ≡ join k f g o → x ≡ unwritten 19 o
+  unfolding join putJoined
+  start-refused k f g o h bs cs i p q t e =
+      e ∙ rw (i, checked-right f h bs (p .reads) (p .right), checked-right g h cs (q .reads) (q .right), same-self h, t)
+
+  -- so neither of two frames that were joined is of type "z"
+  pub joined-ordinary : (k : ℕ) (f g o : List ℕ) → x ≡ join k f g o → x .answer .number ≡ 0
+      → (s h : List ℕ) (bs : List Block) → (s ≡ f) ⊎ (s ≡ g) → read s ≡ frame h bs → starts h ≡ false
+  joined-ordinary k f g o e z s h bs w r =
+      let j = joins-only k f g o e z in
+      ⊎-elim (λ (i : s ≡ f). ordinary f h (j .header) bs (j .first) (rw i at r) (j .one .reads) (j .ordinary))
+      (λ (i : s ≡ g). ordinary g h (j .header) bs (j .second) (rw i at r) (j .other .reads) (j .ordinary)) w

@@ -11,6 +11,7 @@ use Rattle.octets.specs.Choice.{if_then_else_, _is_, all, same}
 use Rattle.octets.specs.Bytes.{isPlain}
 use Rattle.octets.proofs.Tests.{choice}
 use Rattle.octets.proofs.Lists.{same-eq, same-self}
+use Rattle.header.specs.Addressing.{starts}
 use Rattle.header.specs.Header.{isHeader}
 use Rattle.header.specs.Capitals.{headerCapitals}
 use Rattle.body.specs.Body.{Block, block, hasRead, allRight}
@@ -147,6 +148,7 @@ module _ (k : ℕ) (f g o : List ℕ) where
         checked-right f (w .header) (w .first) (w .one .reads) (w .one .right),
         checked-right g (w .header) (w .second) (w .other .reads) (w .other .right),
         same-self (w .header),
+        w .ordinary,
         w .calm,
       )
       (put-gives k (w .header) (w .first ++ w .second) o (w .within) (w .room))
@@ -160,7 +162,7 @@ module _ (k : ℕ) (f g o : List ℕ) where
   joinable i (refused n) s p q = refused-not n o p
   joinable i (frame h bs) (refused n) p q = refused-not n o q
   joinable i (frame h bs) (frame h′ cs) p q =
-      passed (not (same h h′)) 12 o (lit≤ tt) (λ e. passed (hasRead bs) 13 o (lit≤ tt) (λ n. put-only-if k h (bs ++ cs) o (λ v r.
+      passed (not (same h h′)) 12 o (lit≤ tt) (λ e. passed (starts h) 19 o (lit≤ tt) (λ t. passed (hasRead bs) 13 o (lit≤ tt) (λ n. put-only-if k h (bs ++ cs) o (λ v r.
       record {
         form = i;
         header = h;
@@ -168,10 +170,11 @@ module _ (k : ℕ) (f g o : List ℕ) where
         second = cs;
         one = record { reads = p .0; right = p .1 };
         other = record { reads = rw (same-eq h h′ (not-false (same h h′) e)) (q .0); right = q .1 };
+        ordinary = t;
         calm = n;
         within = v;
         room = r;
-      })))
+      }))))
 
   -- only then
   pub join-only-if : join k f g o .answer .number ≡ 0 → Joinable k f g o
@@ -182,9 +185,9 @@ module _ (k : ℕ) (f g o : List ℕ) where
 
 -- a buffer of 24,576 bytes is always long enough
 pub join-succeeds : (k : ℕ) (f g o h : List ℕ) (bs cs : List Block) → isForm k ≡ true → inCapitals (read f) ≡ frame h bs
-    → inCapitals (read g) ≡ frame h cs → allRight bs ≡ true → allRight cs ≡ true → hasRead bs ≡ false → isOver k h (bs ++ cs) ≡ false → 24576 ≤ length o
+    → inCapitals (read g) ≡ frame h cs → allRight bs ≡ true → allRight cs ≡ true → starts h ≡ false → hasRead bs ≡ false → isOver k h (bs ++ cs) ≡ false → 24576 ≤ length o
     → join k f g o .answer .number ≡ 0
-join-succeeds k f g o h bs cs i p q a b n v z =
+join-succeeds k f g o h bs cs i p q a b t n v z =
     join-if k f g o
     (record {
       form = i;
@@ -193,6 +196,7 @@ join-succeeds k f g o h bs cs i p q a b n v z =
       second = cs;
       one = record { reads = p; right = a };
       other = record { reads = q; right = b };
+      ordinary = t;
       calm = n;
       within = v;
       room = omega (arith, render-length k h (bs ++ cs) v);

@@ -5,6 +5,7 @@ use mathlib.Core.List.{List, _++_}
 use Prim.Native.Nat.{ℕ}
 use lib.ListN.{take}
 use Rattle.octets.specs.Choice.{isByte, all}
+use Rattle.header.specs.Addressing.{starts}
 use Rattle.header.specs.Capitals.{noSmall}
 use Rattle.body.specs.Body.{Block, hasRead, allRight}
 use Rattle.reading.specs.Reading.{frame, read}
@@ -30,12 +31,13 @@ pub record Sure (s h : List ℕ) (bs : List Block) : Type 0 where
   pub reads : inCapitals (read s) ≡ frame h bs
   pub right : allRight bs ≡ true
 
--- the result of joining f and g: "the second frame's blocks after the first's under the common header"
+-- the result of joining f and g: "the second frame's blocks after the first's under the common header", which is not of type "z"
 pub record Joined (form : ℕ) (f g : List ℕ) (x : Output) : Type 0 where
   pub header : List ℕ
   pub first : List Block
   pub second : List Block
   pub one : Sure f header first
   pub other : Sure g header second
+  pub ordinary : starts header ≡ false
   pub calm : hasRead first ≡ false
   pub result : Carries form header (first ++ second) x

@@ -14,10 +14,11 @@ pub use reading::reading::read;
 pub use reading::reading::is_printable;
 pub use reading::reading::read_bare;
 
-// The sum of a block, the fit of a header to a board, and the types that a board may have.
+// The sum of a block, the fit of a header to a board, whether it asks for a first start, and the types that a board may have.
 pub use body::sum::checksum;
 pub use header::addressing::addressed;
 pub use header::addressing::is_own_type;
+pub use header::addressing::starts;
 
 // Writing a one-command frame, putting a frame into another form, joining two frames.
 pub use writing::Written;

@@ -15,8 +15,8 @@ use Rattle.octets.specs.Carried.{isSmall, capital}
 use Rattle.octets.proofs.Tests.{choice, by-test, or-in, split}
 use Rattle.octets.proofs.Capitals.{capital-other, capital-not-small, capital-again, capital-is}
 use Rattle.octets.proofs.SlicesLaws.{Alike, same-long, alike-start, alike-not, alike-on, alike-end}
-use Rattle.header.specs.Addressing.{isAddressChar, charFits, addressFits, pairFits, anyFits, addressed}
-use Rattle.header.specs.Header.{isPair, isPairs, isHeader}
+use Rattle.header.specs.Addressing.{isAddressChar, charFits, addressFits, pairFits, anyFits, addressed, starts}
+use Rattle.header.specs.Header.{isPair, isPairs, isSole, isHeader}
 use Rattle.header.specs.Capitals.{capitalAt, capitalsFrom, headerCapitals, noSmallFrom, noSmall}
 
 -- ---- a byte at a place
@@ -137,6 +137,15 @@ module _ (h : List ℕ) where
   unfolding isPair
   pair-same = rw (first-byte, second-byte, third-byte, char-taken (h ! 1), char-taken (h ! 2))
 
+  sole-same : isSole (headerCapitals h) ≡ isSole h
+  unfolding isSole
+  sole-same = rw (second-byte, third-byte, char-taken (h ! 1), char-taken (h ! 2), header-long h)
+
+  -- a header and its capitals have one type
+  pub starts-same : starts (headerCapitals h) ≡ starts h
+  unfolding starts
+  starts-same = rw first-byte
+
   fits-same : (own address : ℕ) → pairFits own address (headerCapitals h) ≡ pairFits own address h
   unfolding pairFits
   fits-same own address = rw (first-byte, second-byte, third-byte, address-fits (h ! 1) (h ! 2) address)
@@ -162,7 +171,7 @@ module _ (h : List ℕ) where
   -- the capitals of a good header are a good header
   pub header-same : isHeader (headerCapitals h) ≡ isHeader h
   unfolding isHeader
-  header-same = pairs-same PAIRS h
+  header-same = rw (starts-same h, sole-same h, pairs-same PAIRS h)
 
 -- ---- as the code tells them
 

@@ -6,8 +6,8 @@ use Rattle.octets.specs.Hex.{digit, value, isHex2, hex2, isHex4, hex4, inHex4}
 use Rattle.octets.specs.Carried.{capital, capitals}
 use Rattle.octets.specs.Decimal.{isDecimal, decimal2, inDecimal2}
 use Rattle.octets.specs.Buffer.{zeros, splice, overlay}
-use Rattle.header.specs.Addressing.{isOwnType, fitOf, addressFits, pairFits, anyFits, addressed}
-use Rattle.header.specs.Header.{isPair, isPairs, isHeader}
+use Rattle.header.specs.Addressing.{isOwnType, fitOf, addressFits, pairFits, anyFits, addressed, starts}
+use Rattle.header.specs.Header.{isPair, isPairs, isSole, isHeader}
 use Rattle.header.specs.Capitals.{capitalAt, capitalsFrom, headerCapitals, noSmallFrom, noSmall}
 use Rattle.body.specs.Sum.{sumFrom, summed, checksum}
 use Rattle.body.specs.Body.{follow, afterEtx, afterData, blockAt, prepend, onward, blocks, isRead, readNotLast, hasRead, allRight}
@@ -28,8 +28,8 @@ unfolding
     capital capitals
     isDecimal decimal2 inDecimal2
     zeros splice overlay
-    isOwnType fitOf addressFits pairFits anyFits addressed
-    isPair isPairs isHeader
+    isOwnType fitOf addressFits pairFits anyFits addressed starts
+    isPair isPairs isSole isHeader
     capitalAt capitalsFrom headerCapitals noSmallFrom noSmall
     sumFrom summed checksum
     follow afterEtx afterData blockAt prepend onward blocks isRead readNotLast hasRead allRight

@@ -25,7 +25,7 @@ unfoldable pub readBody : List ℕ → Body → Reading
 readBody h badBody = refused 7
 readBody h (body bs) = if readNotLast false bs then refused 8 else frame h bs
 
--- 6 "bad header, or "z"": the text before the first STX, and the bytes from it on; "with no such STX the header is bad"
+-- 6 "bad header", and since request 11 "z" beside other pairs: the text before the first STX, and the bytes from it on; "with no such STX the header is bad"
 unfoldable pub readHeader : List ℕ → List ℕ → Reading
 readHeader h b = if none b then refused 6 else if not (isHeader h) then refused 6 else readBody h (blocks BLOCKS b)
 

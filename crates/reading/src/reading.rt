@@ -37,7 +37,7 @@ pub const WRONG_LEAD: u8 = 4;
 // "printable: bad escape or byte outside 20H to 7EH"
 pub const BAD_PRINTABLE: u8 = 5;
 
-// "bad header, or "z""
+// "bad header"; request 11: "6 stays for "z" beside other pairs"
 pub const BAD_HEADER: u8 = 6;
 
 // Where the body starts, and what is known of its blocks; or a number from 6 to 8.

@@ -7,7 +7,9 @@ use borrow.Author.Needs.{needs}
 use lib.ListN.{length, take}
 use Rattle.octets.specs.Choice.{same, part}
 use Rattle.octets.specs.Bytes.{TRANSLATED}
+use Rattle.header.specs.Addressing.{starts}
 use Rattle.header.specs.Capitals.{headerCapitals}
+use Rattle.header.proofs.CapitalsLaws.{starts-same}
 use Rattle.body.specs.Body.{Block}
 use Rattle.body.specs.Steps.{blocksAt}
 use Rattle.body.specs.declared.surveying.Survey.{Survey}
@@ -37,18 +39,28 @@ module _ (form : ℕ) {s : List ℕ} {i j : ℕ} {v : Survey} (g : Parted s i j 
   unfolding putJoined
   join-differ f r w = rw (w, ← e, f)
 
-  module _ (f : not u ≡ false) where
-    pub join-reads : v .read ≡ true → (r : Written) → r ≡ writtenAs 13 0
+  module _ (f : not u ≡ false) (x : Bool) (d : x ≡ starts (part i j s)) where
+    -- a header and its capitals have one type
+    type : starts (headerCapitals (part i j s)) ≡ x
+    type = starts-same (part i j s) ∙ sym d
+
+    pub join-starts : x ≡ true → (r : Written) → r ≡ writtenAs 19 0
         → output r o ≡ putJoined form (frame (headerCapitals (part i j s)) (blocksAt s j)) (frame h cs) o
     unfolding putJoined
-    join-reads l r w = rw (w, ← e, f, ← seen-read (g .source), l)
+    join-starts l r w = rw (w, ← e, f, type, l)
 
-    pub join-calm : v .read ≡ false → (r : Written) (o₁ : List ℕ) → output r o₁ ≡ put form (headerCapitals (part i j s)) (blocksAt s j ++ cs) o
-        → output r o₁ ≡ putJoined form (frame (headerCapitals (part i j s)) (blocksAt s j)) (frame h cs) o
-    unfolding putJoined
-    join-calm l r o₁ w = w ∙ rw (← e, f, ← seen-read (g .source), l)
+    module _ (k : x ≡ false) where
+      pub join-reads : v .read ≡ true → (r : Written) → r ≡ writtenAs 13 0
+          → output r o ≡ putJoined form (frame (headerCapitals (part i j s)) (blocksAt s j)) (frame h cs) o
+      unfolding putJoined
+      join-reads l r w = rw (w, ← e, f, type, k, ← seen-read (g .source), l)
 
-pub ruleset joining = (parted-source, join-differ, join-reads, join-calm, needs)
+      pub join-calm : v .read ≡ false → (r : Written) (o₁ : List ℕ) → output r o₁ ≡ put form (headerCapitals (part i j s)) (blocksAt s j ++ cs) o
+          → output r o₁ ≡ putJoined form (frame (headerCapitals (part i j s)) (blocksAt s j)) (frame h cs) o
+      unfolding putJoined
+      join-calm l r o₁ w = w ∙ rw (← e, f, type, k, ← seen-read (g .source), l)
+
+pub ruleset joining = (parted-source, join-differ, join-starts, join-reads, join-calm, needs)
 
 -- ---- the first frame is read: what is made of the second
 

@@ -1,11 +1,12 @@
 // "Joining puts the second frame's blocks after the first's under the common header."
-// "Joining: 15, the first input's 3 to 8 and 17, the second's, 12, 13, 18, 14."
+// "Joining: 15, the first input's 3 to 8 and 17, the second's, 12," 19, "13, 18, 14."
 use crate::Written;
 use crate::blocks::escapes_from;
 use crate::blocks::put_blocks;
 use crate::blocks::put_headed;
 use crate::numbers::FIRST_HAS_READ;
 use crate::numbers::HEADERS_DIFFER;
+use crate::numbers::START_JOINED;
 use crate::numbers::WRONG_FORM;
 use crate::numbers::WRONG_SUM;
 use crate::output::fit;
@@ -13,6 +14,7 @@ use crate::output::is_form;
 use crate::output::unwritten;
 use body::surveying::Survey;
 use forms::put_eot;
+use header::addressing::starts;
 use header::capitals::same_capitals;
 use reading::reading::Parts;
 use reading::reading::Translated;
@@ -144,7 +146,7 @@ fn is_common(h: &[u8], g: &[u8]) -> bool
     same_capitals(h, g)
 }
 
-// Two frames whose sums are right: 12, 13, and then the rest.
+// Two frames whose sums are right: 12, 19, 13, and then the rest.
 fn join_right(
     form: u8,
     s: &[u8],
@@ -163,6 +165,9 @@ fn join_right(
 {
     if !is_common(&s[header..from], &t[head..place]) {
         return unwritten(HEADERS_DIFFER);
+    }
+    if starts(&s[header..from]) {
+        return unwritten(START_JOINED);
     }
     if seen.read {
         return unwritten(FIRST_HAS_READ);

@@ -20,3 +20,6 @@ pub const WRONG_SUM: u8 = 17;
 
 // "result over 8,192 translated bytes or 64 blocks"
 pub const TOO_LONG: u8 = 18;
+
+// request 11: "joining a "z" header"
+pub const START_JOINED: u8 = 19;

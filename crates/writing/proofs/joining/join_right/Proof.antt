@@ -29,11 +29,29 @@ unwritten-requires c κs = search joining
 returns : tie.Need-returns
 returns c = search joining
 
+sub-starts : tie.Need-sub-starts
+sub-starts c = search joining
+
+part-starts-start : tie.Need-part-starts-start
+part-starts-start c = search joining
+
+part-starts-end : tie.Need-part-starts-end
+part-starts-end c = search joining
+
+starts-requires : tie.Need-starts-requires
+starts-requires c κs = search joining
+
 unwritten-requires-2 : tie.Need-unwritten-requires-2
 unwritten-requires-2 c κs = search joining
 
 returns-2 : tie.Need-returns-2
 returns-2 c = search joining
+
+unwritten-requires-3 : tie.Need-unwritten-requires-3
+unwritten-requires-3 c κs = search joining
+
+returns-3 : tie.Need-returns-3
+returns-3 c = search joining
 
 join-calm-requires : tie.Need-join-calm-requires
 join-calm-requires c κs = search joining
@@ -41,8 +59,8 @@ join-calm-requires c κs = search joining
 same-length : tie.Need-same-length
 same-length c = search joining
 
-returns-3 : tie.Need-returns-3
-returns-3 c = search joining
+returns-4 : tie.Need-returns-4
+returns-4 c = search joining
 
 pub join-right-spec : {M : Type 1} → statement M
 join-right-spec =
@@ -57,8 +75,14 @@ join-right-spec =
     is-common-requires
     unwritten-requires
     returns
+    sub-starts
+    part-starts-start
+    part-starts-end
+    starts-requires
     unwritten-requires-2
     returns-2
+    unwritten-requires-3
+    returns-3
     join-calm-requires
     same-length
-    returns-3)
+    returns-4)
