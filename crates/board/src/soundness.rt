@@ -32,7 +32,7 @@ ghost use Rattle.board.specs.Soundness.{isLabel, isProtection, isCodes, 
 ghost use Rattle.board.specs.InnerNoted.{sizeOrNone, recordOrNone, lengthAt, entries, holdsNoted, soundNoted};
 
 // "P: "U" or "L""
-const UNLOCKED: u8 = 0x55;
+pub const UNLOCKED: u8 = 0x55;
 
 const LOCKED: u8 = 0x4C;
 

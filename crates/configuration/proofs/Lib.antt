@@ -6,3 +6,4 @@ pub mod Listing
 pub mod Laying
 pub mod Refusing
 pub mod ConfigurationLaws
+pub mod StartingLaws

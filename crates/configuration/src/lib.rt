@@ -4,6 +4,7 @@ mod configuration;
 mod labels;
 pub mod numbers;
 mod records;
+pub mod starting;
 
 pub use crate::configuration::configure;
 

@@ -1,0 +1,32 @@
+use Rattle.configuration.proofs.StartingLaws.{starting}
+use Rattle.configuration.proofs.starting.start.Statement.{statement}
+use Rattle.configuration.proofs.starting.start.Tie as tie
+
+slice-aggregate-put-list : tie.Need-slice-aggregate-put-list
+slice-aggregate-put-list c = search starting
+
+put-list-requires : tie.Need-put-list-requires
+put-list-requires c κs = search starting
+
+slice-aggregate-replace : tie.Need-slice-aggregate-replace
+slice-aggregate-replace c = search starting
+
+replace-requires : tie.Need-replace-requires
+replace-requires c κs = search starting
+
+same-length : tie.Need-same-length
+same-length c = search starting
+
+returns : tie.Need-returns
+returns c = search starting
+
+pub start-spec : {M : Type 1} → statement M
+start-spec =
+    tie.close
+    (tie.spec
+    slice-aggregate-put-list
+    put-list-requires
+    slice-aggregate-replace
+    replace-requires
+    same-length
+    returns)
