@@ -17,7 +17,7 @@ use Rattle.board.specs.declared.Found.the-variants.{At, Nothing}
 use Rattle.board.specs.declared.Settings.{Settings}
 use Rattle.register.specs.Register.{CLEARED, isRegister}
 use Rattle.board.specs.Settings.{inRange, withErrors, cleared}
-use Rattle.board.specs.Files.{TEXT, STRING, File, filesOf}
+use Rattle.board.specs.Files.{TEXT, STRING, File, filesOf, heads}
 use Rattle.board.specs.Board.{Board, withSettings, withMemory, filesOn}
 use Rattle.board.specs.Soundness.{soundMemory, keepsTrue, sound}
 use Rattle.board.proofs.Ranges.{range, errors-ranged}
@@ -35,7 +35,7 @@ use Rattle.configuration.specs.Configuration.{replaced, replace, configure}
 use Rattle.special.specs.Special.{CONFIGURATION, CLEAR, ERRORS, setsAddress, setBy, writeSpecial, isTold, tell, afterTold, readSpecial}
 use Rattle.commands.specs.Blocks.{command, doBlock, runBlock}
 use Rattle.keeping.specs.Keeping.{fileIn, configures, writes, clears, Keeps}
-use Rattle.keeping.proofs.Messages.{content, put-others, holding-files, holding-length, holding-unused, holding-index, holding-sound}
+use Rattle.keeping.proofs.Messages.{content, put-others, put-heads, holding-files, holding-length, holding-unused, holding-index, holding-sound}
 use Rattle.configuration.proofs.ConfigurationLaws.{replaced-length, replaced-sound}
 use Rattle.keeping.proofs.Changes.{Kept, set-keeps}
 use Rattle.special.proofs.TellLengths.{told-fits}
@@ -84,6 +84,7 @@ module _ (b : Board) (c : ℕ) where
         files = λ n. refl;
         memory = λ n. refl;
         others = λ n p s k o. refl;
+        records = λ n p s. refl;
         refused = λ n. (refl, refl);
         errors = λ e. absurd (z e);
         read = λ t e. absurd (z e);
@@ -116,6 +117,7 @@ module _ (b : Board) (c : ℕ) where
             files = λ n. refl;
             memory = λ n. refl;
             others = λ n p s k o. refl;
+            records = λ n p s. refl;
             refused = λ n. absurd (n refl);
             errors = λ n. e;
             read = λ t n. ap (withSettings b) g;
@@ -163,6 +165,9 @@ module _ (b : Board) (c : ℕ) where
                 ap (λ (fs : List File). fileIn fs k)
                 (holding-files n m s label kind start size e msg small (all-tail isPlain label msg p))
                 ∙ put-others (filesOn b) label kind (content size msg) k o;
+            records = λ x p s.
+                ap heads (holding-files n m s label kind start size e msg small (all-tail isPlain label msg p))
+                ∙ put-heads (filesOn b) label kind (content size msg);
             refused = λ n. absurd (n refl);
             errors = λ n. rw z;
             read = λ r. never (sym r ∙ t);
@@ -208,6 +213,7 @@ module _ (b : Board) (c : ℕ) where
         files = λ n. k .files;
         memory = λ n. refl;
         others = λ x p s i o. ap (λ (n : ℕ). fileIn (filesOf n (b .memory)) i) (k .files);
+        records = λ x p s. ap (λ (n : ℕ). heads (filesOf n (b .memory))) (k .files);
         refused = λ n. (ap (λ (t : Settings). withSettings b (withFault t (x .number))) (k .refused n), refl);
         errors = λ n. rw n (k .errors n);
         read = λ r. never (sym r ∙ t);
@@ -236,6 +242,7 @@ module _ (b : Board) (c : ℕ) where
             files = λ n. never (sym w ∙ n);
             memory = λ n. never (sym (rw w) ∙ n);
             others = λ n. never (sym w ∙ n);
+            records = λ n. never (sym w ∙ n);
             refused = λ n. absurd (n refl);
             errors = λ n. rw z;
             read = λ q. never (sym q ∙ r);

@@ -13,7 +13,7 @@ use Rattle.octets.specs.Bytes.{isPlain}
 use Rattle.octets.proofs.Tests.{choice, by-test, split}
 use Rattle.octets.proofs.Buffers.{length-zeros}
 use Rattle.board.specs.declared.Found.the-variants.{At, Nothing}
-use Rattle.board.specs.Files.{File, taken, fileAt, filesOf, unused, labels, find, isAt}
+use Rattle.board.specs.Files.{File, taken, fileAt, filesOf, heads, unused, labels, find, isAt}
 use Rattle.board.specs.Index.{entry, namesEach, isIndex}
 use Rattle.board.specs.Soundness.{isContent, holdsFiles, soundMemory}
 use Rattle.board.proofs.Layouts.{layout, AllValid, past, parse, layout-unused, holds, count-files, print, valid, past-zero, past-unused}
@@ -44,6 +44,13 @@ unfolding putIn labels
 put-labels [] l t m = refl
 put-labels (f ∷ fs) l t m =
     choice (λ (x : List File). labels x ≡ f .head ! 0 ∷ labels fs) (isAt l t (f .head)) (λ e. refl) (λ e. rw (put-labels fs l t m))
+
+-- every record stays as it was
+pub put-heads : (fs : List File) (l t : ℕ) (m : List ℕ) → heads (putIn fs l t m) ≡ heads fs
+unfolding putIn heads
+put-heads [] l t m = refl
+put-heads (f ∷ fs) l t m =
+    choice (λ (x : List File). heads x ≡ f .head ++ heads fs) (isAt l t (f .head)) (λ e. refl) (λ e. ap (λ (x : List ℕ). f .head ++ x) (put-heads fs l t m))
 
 -- a file of another label stays as it was
 pub put-others : (fs : List File) (l t : ℕ) (m : List ℕ) (k : ℕ) → (fileIn fs k .head ! 0 ≡ l → ⊥) →

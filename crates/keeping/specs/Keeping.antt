@@ -10,7 +10,7 @@ use Rattle.octets.specs.Bytes.{A, E, F, G, isPlain}
 use Rattle.body.specs.Body.{isRead}
 use Rattle.register.specs.Register.{CLEARED}
 use Rattle.board.specs.Settings.{cleared}
-use Rattle.board.specs.Files.{File}
+use Rattle.board.specs.Files.{File, heads}
 use Rattle.board.specs.Board.{Board, withSettings, filesOn}
 use Rattle.board.specs.Soundness.{holdsFiles, sound}
 use Rattle.effects.specs.Reply.{replyRoom}
@@ -47,6 +47,9 @@ pub record Keeps (b : Board) (c : ℕ) (d : List ℕ) (e : Effect) : Type 0 wher
   -- a file of another label keeps every byte, of its record and of its content
   pub others : configures c d ≡ false → all isPlain d ≡ true → holdsFiles (b .settings .files) (b .memory) ≡ true →
       (k : ℕ) → (fileIn (filesOn b) k .head ! 0 ≡ d ! 0 → ⊥) → fileIn (filesOn (e .after)) k ≡ fileIn (filesOn b) k
+  -- and no command but "$" changes a record
+  pub records : configures c d ≡ false → all isPlain d ≡ true → holdsFiles (b .settings .files) (b .memory) ≡ true →
+      heads (filesOn (e .after)) ≡ heads (filesOn b)
   -- refused: no reply, and the board as it was but for the register, which is the old one with the bit of that number
   pub refused : (e .number ≡ 0 → ⊥) → (e .after ≡ withSettings b (withFault (b .settings) (e .number))) × (e .reply ≡ [])
   -- done: the register as it was, unless the command clears it: "a bit stays until cleared"

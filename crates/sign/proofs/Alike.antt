@@ -4,15 +4,15 @@ use mathlib.Core.Path.{_≡_, refl, ap}
 use mathlib.Core.List.{List}
 use Rattle.reading.specs.Reading.{Reading, refused, frame, read}
 use Rattle.reading.specs.Capitals.{inCapitals}
-use Rattle.frame.proofs.Frames.{addressed-alike}
+use Rattle.frame.proofs.Frames.{addressed-alike, starts-alike}
 use Rattle.board.specs.Board.{Board}
-use Rattle.sign.specs.Run.{runFrame, run}
+use Rattle.sign.specs.Run.{begun, runFrame, run}
 
--- what was read and the same with its header in capitals: a board is addressed alike by both
+-- what was read and the same with its header in capitals: a board is addressed, and started, alike by both
 pub run-capitals : (b : Board) (o : List ℕ) (r : Reading) → runFrame b o (inCapitals r) ≡ runFrame b o r
-unfolding runFrame inCapitals
+unfolding runFrame begun inCapitals
 run-capitals b o (refused n) = refl
-run-capitals b o (frame h bs) = rw (addressed-alike h (b .settings .own) (b .settings .address))
+run-capitals b o (frame h bs) = rw (addressed-alike h (b .settings .own) (b .settings .address), starts-alike h)
 
 module _ (b : Board) (o f g : List ℕ) where
   -- two frames that read as the same, their headers in capitals, do the same, on any board and with any reply buffer

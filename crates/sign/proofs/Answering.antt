@@ -7,7 +7,7 @@ use borrow.Author.Needs.{needs}
 use borrow.Author.Tests.{lt-ltb, le-ltb, not-true, not-false}
 use lib.ListN.{length, take}
 use Rattle.octets.specs.Choice.{part}
-use Rattle.header.specs.Addressing.{addressed}
+use Rattle.header.specs.Addressing.{addressed, starts}
 use Rattle.body.specs.Steps.{blocksAt}
 use Rattle.reading.specs.Reading.{refused, frame, read}
 use Rattle.reading.specs.Places.{isPrintable, bareRead, Reads}
@@ -21,8 +21,11 @@ use Rattle.board.specs.declared.Settings.{Settings}
 use Rattle.board.proofs.Inside.{sound-most}
 use Rattle.effects.specs.Reply.{replyRoom}
 use Rattle.effects.specs.InnerLeaving.{Ready}
-use Rattle.sign.specs.Run.{nothing, outcome, untouched, runBlocks, runFrame, run}
-use Rattle.sign.specs.InnerRunning.{answerAs, Framed}
+use Rattle.effects.proofs.ReplyLengths.{room-as}
+use Rattle.configuration.specs.Starting.{START-MEMORY, started}
+use Rattle.configuration.proofs.StartingLaws.{started-length, started-sound}
+use Rattle.sign.specs.Run.{nothing, outcome, untouched, runBlocks, begun, runFrame, run}
+use Rattle.sign.specs.InnerRunning.{answerAs, Running, Framed, runStarted}
 use Rattle.sign.specs.declared.Tally.{Tally}
 use Rattle.sign.specs.declared.Answer.{Answer}
 use Rattle.sign.proofs.RunLaws.{run-unsound, run-short}
@@ -38,13 +41,51 @@ module _ (b : Board) (o t : List ℕ) (i j : ℕ) (x : Bool) (e : x ≡ addresse
   unfolding runFrame
   frame-away y r q m k = rw (q, k, ← e, y)
 
-  -- 0
-  pub frame-ran : not x ≡ false → (r : Answer) (m′ o′ : List ℕ) → outcome r m′ o′ ≡ runBlocks (untouched 0 b o) (blocksAt t j) →
-      outcome r m′ o′ ≡ runFrame b o (frame (part i j t) (blocksAt t j))
-  unfolding runFrame
-  frame-ran y r m′ o′ f = rw (← e, y) f
+  module _ (y : not x ≡ false) (z : Bool) (g : z ≡ starts (part i j t)) (r : Answer) (m′ o′ : List ℕ) where
+    -- 28, or 0
+    pub frame-started : z ≡ true → outcome r m′ o′ ≡ runStarted b o (blocksAt t j) → outcome r m′ o′ ≡ runFrame b o (frame (part i j t) (blocksAt t j))
+    unfolding runFrame runStarted begun
+    frame-started h f = f ∙ rw (← e, y, ← g, h)
 
-pub ruleset framing = (untouched-as, frame-away, frame-ran, needs)
+    -- 0
+    pub frame-ran : z ≡ false → outcome r m′ o′ ≡ runBlocks (untouched 0 b o) (blocksAt t j) →
+        outcome r m′ o′ ≡ runFrame b o (frame (part i j t) (blocksAt t j))
+    unfolding runFrame begun
+    frame-ran h f = f ∙ rw (← e, y, ← g, h)
+
+pub ruleset framing = (untouched-as, frame-away, frame-started, frame-ran, needs)
+
+-- ---- one that asks for a first start
+
+module _ {b : Board} {o t : List ℕ} {from : ℕ} (g : Running b o t from) (m : List ℕ) (i : m ≡ b .memory) where
+  -- 28
+  pub started-small : length m < START-MEMORY → (r : Answer) → r ≡ answerAs 28 nothing (b .settings) → outcome r m o ≡ runStarted b o (blocksAt t from)
+  unfolding runStarted
+  started-small h r q = rw (q, i, lt-ltb (length (b .memory)) START-MEMORY (rw i at h))
+
+  pub started-sound-before : sound b ≡ true
+  started-sound-before = g .ready .sound
+
+  -- the board with its files
+  module _ (h : START-MEMORY ≤ length m) (x : Board) (e : x ≡ started b) where
+    enough : START-MEMORY ≤ length (b .memory)
+    enough = rw i at h
+
+    pub started-running : Running x o t from
+    started-running =
+        record {
+          ready = record {
+            sound = rw e (started-sound b enough (g .ready .sound));
+            room = rw e (room-as (b .memory) (started b .memory) (started-length b enough) (g .ready .room));
+          };
+          good = g .good;
+        }
+
+    pub started-ran : (r : Answer) (m′ o′ : List ℕ) → outcome r m′ o′ ≡ runBlocks (untouched 0 x o) (blocksAt t from) → outcome r m′ o′ ≡ runStarted b o (blocksAt t from)
+    unfolding runStarted
+    started-ran r m′ o′ f = f ∙ rw (e, le-ltb (length (b .memory)) START-MEMORY enough)
+
+pub ruleset starting = (started-small, started-sound-before, started-running, started-ran, needs)
 
 -- ---- a board that is ready
 

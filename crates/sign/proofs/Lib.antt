@@ -1,5 +1,6 @@
 -- Laws of runs: what they count, what they keep, the register through one, fresh boards, what is refused with 1; and what the functions go by.
 pub mod RunLaws
+pub mod Beginning
 pub mod NotSound
 pub mod Steady
 pub mod Through

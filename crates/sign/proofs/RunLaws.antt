@@ -2,20 +2,21 @@
 use Prim.Native.Nat.{ℕ, suc, _+_}
 use mathlib.Core.Path.{_≡_, refl, sym, ap, _∙_}
 use mathlib.Core.List.{List, [], _∷_}
-use mathlib.Core.Bool.{Bool, true, false, not}
+use mathlib.Core.Bool.{Bool, true, false, not, _&&_}
 use native.Mathlib.Omega.{arith}
 use lib.ListN.{length}
 use borrow.Author.Tests.{eq-eqb, eqb-true, eqb-false}
 use Rattle.octets.specs.Choice.{if_then_else_, _is_, _<?_}
 use Rattle.octets.proofs.Tests.{by-test, choice}
 use Rattle.body.specs.Body.{Block}
-use Rattle.header.specs.Addressing.{addressed}
+use Rattle.header.specs.Addressing.{addressed, starts}
 use Rattle.reading.specs.Reading.{Reading, refused, frame, read}
 use Rattle.board.specs.Board.{Board}
 use Rattle.board.specs.Soundness.{sound}
 use Rattle.effects.specs.Reply.{replyRoom}
+use Rattle.configuration.specs.Starting.{START-MEMORY}
 use Rattle.commands.specs.Blocks.{runBlock}
-use Rattle.sign.specs.Run.{tally, count, measure, Outcome, untouched, onto, runBlocks, runFrame, run}
+use Rattle.sign.specs.Run.{tally, count, measure, Outcome, untouched, onto, runBlocks, begun, runFrame, run}
 use Rattle.sign.specs.Counts.{blockNumbers, doneIn, refusedIn, reasonIn, placeIn, Counts}
 use Rattle.sign.specs.declared.Tally.{Tally}
 
@@ -145,7 +146,7 @@ run-counted b o ks =
 -- counts by what was read
 abbrev CountedBy : Board → Reading → Tally → Type 0
 CountedBy b (refused n) t = Unit {0}
-CountedBy b (frame h bs) t = Counts t (blockNumbers b bs)
+CountedBy b (frame h bs) t = Counts t (blockNumbers (begun b h) bs)
 
 -- a run whose number is 0 has counted; no run has a place without a number
 record Tallied (b : Board) (r : Reading) (x : Outcome) : Type 0 where
@@ -156,10 +157,13 @@ frame-tallied : (b : Board) (o : List ℕ) (r : Reading) → Tallied b r (runFra
 unfolding runFrame
 frame-tallied b o (refused n) = record { counted = λ z. tt; none = λ z. refl }
 frame-tallied b o (frame h bs) =
-    let c = run-counted b o bs in
+    let x = begun b h in
+    let c = run-counted x o bs in
     choice (Tallied b (frame h bs)) (not (addressed (b .settings .own) (b .settings .address) h))
     (λ e. record { counted = λ z. absurd (omega arith); none = λ z. refl })
-    (λ e. record { counted = λ z. c; none = λ z. c .place ∙ place-none (blockNumbers b bs) (sym (c .reason) ∙ z) })
+    (λ e. choice (Tallied b (frame h bs)) (starts h && length (b .memory) <? START-MEMORY)
+    (λ g. record { counted = λ z. absurd (omega arith); none = λ z. refl })
+    (λ g. record { counted = λ z. c; none = λ z. c .place ∙ place-none (blockNumbers x bs) (sym (c .reason) ∙ z) }))
 
 run-tallied : (b : Board) (o f : List ℕ) → Tallied b (read f) (run b o f)
 unfolding run
@@ -172,7 +176,7 @@ run-tallied b o f =
 
 -- each count of a run whose number is 0 is the number of blocks of that outcome
 pub answer-counted : (b : Board) (o f h : List ℕ) (bs : List Block) → read f ≡ frame h bs → run b o f .number ≡ 0 →
-    Counts (run b o f .tally) (blockNumbers b bs)
+    Counts (run b o f .tally) (blockNumbers (begun b h) bs)
 answer-counted b o f h bs e z = rw e at (run-tallied b o f .counted z)
 
 -- blocks done and blocks refused are all of them
@@ -180,7 +184,7 @@ pub answer-all : (b : Board) (o f h : List ℕ) (bs : List Block) → read f ≡
     run b o f .tally .done + run b o f .tally .refused ≡ length bs
 answer-all b o f h bs e z =
     let c = answer-counted b o f h bs e z in
-    rw (c .done, c .refused) (done-and-refused (blockNumbers b bs) ∙ numbers-length b bs)
+    rw (c .done, c .refused) (done-and-refused (blockNumbers (begun b h) bs) ∙ numbers-length (begun b h) bs)
 
 -- "the place (from 1) and number of the first refused block, both 0 if none"
 pub none-zero : (b : Board) (o f : List ℕ) → run b o f .tally .reason ≡ 0 → run b o f .tally .place ≡ 0

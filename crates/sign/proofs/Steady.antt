@@ -2,7 +2,7 @@
 use Prim.Native.Nat.{ℕ, _≤_}
 use mathlib.Core.Path.{_≡_, refl, ap, _∙_}
 use mathlib.Core.List.{List, [], _∷_}
-use mathlib.Core.Bool.{true, false, not}
+use mathlib.Core.Bool.{true, false, not, _&&_}
 use native.Mathlib.Omega.{arith}
 use lib.ListN.{length}
 use borrow.Author.Tests.{ltb-false}
@@ -10,7 +10,7 @@ use Rattle.octets.specs.Choice.{_is_, _<?_}
 use Rattle.octets.specs.Buffer.{overlay}
 use Rattle.octets.proofs.Tests.{by-test, choice}
 use Rattle.buffers.proofs.Splices.{overlay-none, length-overlay}
-use Rattle.header.specs.Addressing.{addressed}
+use Rattle.header.specs.Addressing.{addressed, starts}
 use Rattle.body.specs.Body.{Block, isRead}
 use Rattle.reading.specs.Reading.{Reading, refused, frame, read}
 use Rattle.frame.proofs.Frames.{PlainBlocks, read-good}
@@ -20,14 +20,17 @@ use Rattle.board.specs.Files.{unused}
 use Rattle.board.specs.Index.{isIndex}
 use Rattle.board.specs.Board.{Board, filesOn}
 use Rattle.board.specs.Soundness.{sound}
+use Rattle.board.specs.declared.Settings.{Settings}
 use Rattle.board.proofs.Inside.{sound-unused, sound-index}
 use Rattle.effects.specs.Reply.{replyRoom}
 use Rattle.effects.proofs.ReplyLengths.{room-as}
+use Rattle.configuration.specs.Starting.{START-MEMORY}
 use Rattle.commands.specs.Blocks.{runBlock}
 use Rattle.keeping.proofs.Keeping.{block-keeps}
-use Rattle.sign.specs.Run.{count, measure, Outcome, untouched, onto, runBlocks, runFrame, run}
+use Rattle.sign.specs.Run.{count, measure, Outcome, untouched, onto, runBlocks, begun, runFrame, run}
 use Rattle.sign.specs.declared.Tally.{Tally}
 use Rattle.sign.proofs.RunLaws.{run-unsound, blocks-number}
+use Rattle.sign.proofs.Beginning.{begun-keeps}
 use Rattle.sign.proofs.NotSound.{sound-offset, sound-errors}
 
 -- ---- blocks
@@ -91,16 +94,19 @@ frame-steady : (b : Board) (o f : List ℕ) → replyRoom (b .memory) ≤ length
 unfolding runFrame
 frame-steady b o f l (refused n) e = untouched-steady b o n
 frame-steady b o f l (frame h bs) e =
-    let p = run-passed bs (untouched 0 b o) in
+    let x = begun b h in
+    let p = run-passed bs (untouched 0 x o) in
     choice (Steady b o) (not (addressed (b .settings .own) (b .settings .address) h)) (λ a. untouched-steady b o 9)
-    (λ a.
+    (λ a. choice (Steady b o) (starts h && length (b .memory) <? START-MEMORY) (λ c. untouched-steady b o 28)
+    (λ c.
+    let k = begun-keeps b h c in
     record {
-      own = p .own;
-      memory = p .memory;
-      reply = p .reply l;
-      sound = λ g. p .sound (read-good f h bs e .plain) g;
-      refused = λ n. absurd (n (blocks-number bs (untouched 0 b o)));
-    })
+      own = p .own ∙ ap (λ (s : Settings). s .own) (k .settings);
+      memory = p .memory ∙ k .memory;
+      reply = p .reply (room-as (b .memory) (x .memory) (k .memory) l);
+      sound = λ g. p .sound (read-good f h bs e .plain) (k .sound g);
+      refused = λ n. absurd (n (blocks-number bs (untouched 0 x o)));
+    }))
 
 -- any frame on any board, with any reply buffer
 pub run-steady : (b : Board) (o f : List ℕ) → Steady b o (run b o f)
@@ -114,7 +120,7 @@ run-steady b o f =
 pub run-sound : (b : Board) (o f : List ℕ) → sound b ≡ true → sound (run b o f .after) ≡ true
 run-sound b o f e = run-steady b o f .sound e
 
--- "1 to 9: board and buffers untouched, everything else returned is 0."
+-- "1 to 9: board and buffers untouched, everything else returned is 0."; "28 leaves and returns what 1 to 9 do"
 pub run-untouched : (b : Board) (o f : List ℕ) → (run b o f .number ≡ 0 → ⊥) → run b o f ≡ untouched (run b o f .number) b o
 run-untouched b o f n = run-steady b o f .refused n
 

@@ -8,21 +8,24 @@ use lib.ListN.{length}
 use borrow.Author.Tests.{eqb-true, eqb-false, not-true}
 use Rattle.octets.specs.Choice.{_is_, _<?_}
 use Rattle.octets.proofs.Tests.{by-test, choice, never, split}
-use Rattle.header.specs.Addressing.{addressed}
+use Rattle.header.specs.Addressing.{addressed, starts}
 use Rattle.body.specs.Body.{Block}
 use Rattle.reading.specs.Reading.{Reading, refused, frame, read}
 use Rattle.register.specs.Register.{bit}
 use Rattle.board.specs.Board.{Board}
 use Rattle.board.specs.Soundness.{sound}
+use Rattle.board.specs.declared.Settings.{Settings}
 use Rattle.effects.specs.Reply.{replyRoom}
 use Rattle.effects.specs.Recording.{faultNoted}
 use Rattle.effects.proofs.RecordingLaws.{fault-stays}
+use Rattle.configuration.specs.Starting.{START-MEMORY}
 use Rattle.commands.specs.Blocks.{runBlock}
 use Rattle.keeping.specs.Keeping.{clears}
 use Rattle.keeping.proofs.Keeping.{block-keeps}
-use Rattle.sign.specs.Run.{Outcome, untouched, onto, runBlocks, runFrame, run}
+use Rattle.sign.specs.Run.{Outcome, untouched, onto, runBlocks, begun, runFrame, run}
 use Rattle.sign.specs.Errors.{errorsBehind, errorsThrough, clearsNone}
 use Rattle.sign.specs.Counts.{blockNumbers}
+use Rattle.sign.proofs.Beginning.{begun-keeps}
 use Rattle.sign.proofs.Steady.{run-untouched}
 
 -- what a block leaves in the register, by its number
@@ -58,7 +61,7 @@ errors-stay (b ∷ ks) c (n ∷ ns) r k h =
 -- a run whose number is 0 has gone through its blocks
 abbrev Noted : Board → Reading → Outcome → Type 0
 Noted b (refused n) x = Unit {0}
-Noted b (frame h bs) x = x .number ≡ 0 → x .after .settings .errors ≡ errorsThrough (b .settings .errors) bs (blockNumbers b bs)
+Noted b (frame h bs) x = x .number ≡ 0 → x .after .settings .errors ≡ errorsThrough (b .settings .errors) bs (blockNumbers (begun b h) bs)
 
 not-run : (b : Board) (r : Reading) (x : Outcome) → (x .number ≡ 0 → ⊥) → Noted b r x
 not-run b (refused n) x z = tt
@@ -68,8 +71,11 @@ frame-noted : (b : Board) (o : List ℕ) (r : Reading) → Noted b r (runFrame b
 unfolding runFrame
 frame-noted b o (refused n) = tt
 frame-noted b o (frame h bs) =
+    let x = begun b h in
     choice (Noted b (frame h bs)) (not (addressed (b .settings .own) (b .settings .address) h)) (λ a z. absurd (omega arith))
-    (λ a z. blocks-errors bs (untouched 0 b o))
+    (λ a. choice (Noted b (frame h bs)) (starts h && length (b .memory) <? START-MEMORY) (λ c z. absurd (omega arith))
+    (λ c z. blocks-errors bs (untouched 0 x o)
+    ∙ ap (λ (s : Settings). errorsThrough (s .errors) bs (blockNumbers x bs)) (begun-keeps b h c .settings)))
 
 run-noted : (b : Board) (o f : List ℕ) → Noted b (read f) (run b o f)
 unfolding run
@@ -80,12 +86,12 @@ run-noted b o f =
 
 -- request 10: the register behind a run
 module _ (b : Board) (o f h : List ℕ) (bs : List Block) (e : read f ≡ frame h bs) where
-  pub run-register : run b o f .number ≡ 0 → run b o f .after .settings .errors ≡ errorsThrough (b .settings .errors) bs (blockNumbers b bs)
+  pub run-register : run b o f .number ≡ 0 → run b o f .after .settings .errors ≡ errorsThrough (b .settings .errors) bs (blockNumbers (begun b h) bs)
   run-register = rw e at (run-noted b o f)
 
   -- "a bit stays until cleared"
   pub run-bits : clearsNone bs ≡ true → (k : ℕ) → bit (b .settings .errors) k ≡ 1 → bit (run b o f .after .settings .errors) k ≡ 1
   run-bits c k g =
       by-test (run b o f .number is 0)
-      (λ z. rw (run-register (eqb-true _ 0 z)) (errors-stay bs c (blockNumbers b bs) (b .settings .errors) k g))
+      (λ z. rw (run-register (eqb-true _ 0 z)) (errors-stay bs c (blockNumbers (begun b h) bs) (b .settings .errors) k g))
       (λ z. rw (run-untouched b o f (eqb-false _ 0 z)) g)

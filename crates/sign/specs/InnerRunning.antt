@@ -4,6 +4,7 @@ use mathlib.Core.Path.{_≡_}
 use mathlib.Core.Bool.{Bool, true, false}
 use mathlib.Core.List.{List}
 use lib.ListN.{length}
+use Rattle.octets.specs.Choice.{if_then_else_, _<?_}
 use Rattle.octets.specs.Bytes.{BLOCKS}
 use Rattle.body.specs.Body.{Block}
 use Rattle.body.specs.Steps.{bodyAt}
@@ -12,9 +13,10 @@ use Rattle.board.specs.Board.{Board, withSettings, withMemory}
 use Rattle.board.specs.declared.Settings.{Settings}
 use Rattle.effects.specs.Reply.{replyRoom}
 use Rattle.effects.specs.InnerLeaving.{Ready}
+use Rattle.configuration.specs.Starting.{START-MEMORY, started}
 use Rattle.commands.specs.Blocks.{runBlock}
 use Rattle.commands.specs.InnerDoing.{isSpecial, Indexed, OfBoard}
-use Rattle.sign.specs.Run.{outcomeAs, onto}
+use Rattle.sign.specs.Run.{Outcome, outcomeAs, untouched, onto, runBlocks}
 use Rattle.sign.specs.declared.Tally.{Tally}
 use Rattle.sign.specs.declared.Answer.{Answer}
 use Rattle.sign.specs.declared.Made.{Made}
@@ -56,3 +58,7 @@ pub record Framed (b : Board) (o t : List ℕ) (header from : ℕ) : Type 0 wher
   pub running : Running b o t from
   pub ordered : header ≤ from
   pub inside : from ≤ length t
+
+-- the blocks of a frame that asks for a first start
+unfoldable pub runStarted : Board → List ℕ → List Block → Outcome
+runStarted b o bs = if length (b .memory) <? START-MEMORY then untouched 28 b o else runBlocks (untouched 0 (started b) o) bs

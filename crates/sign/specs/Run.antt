@@ -1,17 +1,18 @@
 -- Running one frame on a board.
 use Prim.Native.Nat.{ℕ, _+_}
-use mathlib.Core.Bool.{not}
+use mathlib.Core.Bool.{not, _&&_}
 use mathlib.Core.List.{List, [], _∷_}
 use lib.ListN.{length}
 use Rattle.octets.specs.Choice.{if_then_else_, _is_, _<?_}
 use Rattle.octets.specs.Buffer.{overlay}
 use Rattle.body.specs.Body.{Block}
-use Rattle.header.specs.Addressing.{addressed}
+use Rattle.header.specs.Addressing.{addressed, starts}
 use Rattle.reading.specs.Reading.{Reading, refused, frame, read}
 use Rattle.board.specs.Board.{Board, board}
 use Rattle.board.specs.Soundness.{sound}
 use Rattle.effects.specs.Reply.{replyRoom}
 use Rattle.effects.specs.Effects.{Effect}
+use Rattle.configuration.specs.Starting.{START-MEMORY, started}
 use Rattle.commands.specs.Blocks.{runBlock}
 use Rattle.sign.specs.declared.Tally.{Tally}
 use Rattle.sign.specs.declared.Answer.{Answer}
@@ -50,7 +51,8 @@ outcomeAs n t b o = record { number = n; tally = t; after = b; reply = o }
 abbrev pub outcome : Answer → List ℕ → List ℕ → Outcome
 outcome r m o = outcomeAs (r .number) (r .tally) (board (r .settings) m) o
 
--- "1 to 9: board and buffers untouched, everything else returned is 0."; with 0, a run before its first block
+-- "1 to 9: board and buffers untouched, everything else returned is 0."; "28 leaves and returns what 1 to 9 do"; with 0, a run before its
+-- first block
 abbrev pub untouched : ℕ → Board → List ℕ → Outcome
 untouched n b o = outcomeAs n nothing b o
 
@@ -63,12 +65,18 @@ unfoldable pub runBlocks : Outcome → List Block → Outcome
 runBlocks x [] = x
 runBlocks x (k ∷ ks) = runBlocks (onto x (runBlock (x .after) k)) ks
 
--- 3 to 8; 9 "not addressed"; else the blocks: "20 to 27 concern one block; the frame's number is 0."
+-- the board before the first block: request 11, of type "z", "first gets .. files A to Z .. and then runs the blocks"
+unfoldable pub begun : Board → List ℕ → Board
+begun b h = if starts h then started b else b
+
+-- 3 to 8; 9 "not addressed"; request 11: "28, memory below 4,186 bytes, straight after 9"; else the blocks: "20 to 27 concern one block; the
+-- frame's number is 0."
 unfoldable pub runFrame : Board → List ℕ → Reading → Outcome
 runFrame b o (refused n) = untouched n b o
 runFrame b o (frame h bs) =
     if not (addressed (b .settings .own) (b .settings .address) h) then untouched 9 b o
-    else runBlocks (untouched 0 b o) bs
+    else if starts h && length (b .memory) <? START-MEMORY then untouched 28 b o
+    else runBlocks (untouched 0 (begun b h) o) bs
 
 -- 1 "board not sound", 2 "reply buffer shorter than memory plus 64"
 unfoldable pub run : Board → List ℕ → List ℕ → Outcome

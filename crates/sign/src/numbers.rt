@@ -13,3 +13,6 @@ pub const NOT_ADDRESSED: u8 = 9;
 pub const WRONG_TYPE: u8 = 10;
 
 pub const WRONG_MEMORY: u8 = 11;
+
+// request 11: "memory below 4,186 bytes"
+pub const MEMORY_TOO_SMALL: u8 = 28;

@@ -1,6 +1,7 @@
-// Running one frame on a board: "1, 2, empty (3), first byte (4), raw length (3), 5, translated length (3), lead (4), 6, 7, 8, 9".
+// Running one frame on a board: "1, 2, empty (3), first byte (4), raw length (3), 5, translated length (3), lead (4), 6, 7, 8, 9", and 28.
 use crate::Answer;
 use crate::Tally;
+use crate::numbers::MEMORY_TOO_SMALL;
 use crate::numbers::NOT_ADDRESSED;
 use crate::numbers::NOT_SOUND;
 use crate::numbers::REPLY_TOO_SHORT;
@@ -9,6 +10,8 @@ use board::soundness::sound;
 use commands::blocks::file_block;
 use commands::blocks::is_special;
 use commands::blocks::special_block;
+use configuration::starting::START_MEMORY;
+use configuration::starting::start;
 use effects::recording::fault_noted;
 use effects::recording::recorded;
 use effects::reply::reply_room;
@@ -18,6 +21,7 @@ use frame::addressed;
 use frame::is_printable;
 use frame::read;
 use frame::read_bare;
+use frame::starts;
 use frame::step_from;
 use octets::bytes::BLOCKS;
 ghost use mathlib.Core.Path.{_≡_};
@@ -34,7 +38,7 @@ ghost use Rattle.board.specs.Board.{board};
 ghost use Rattle.effects.specs.InnerLeaving.{Ready};
 ghost use Rattle.commands.specs.Blocks.{runBlock};
 ghost use Rattle.sign.specs.Run.{nothing, count, measure, outcomeAs, outcome, untouched, onto, runBlocks, runFrame, run};
-ghost use Rattle.sign.specs.InnerRunning.{answerAs, Runnable, Fileable, Leaves, Running, Framed};
+ghost use Rattle.sign.specs.InnerRunning.{answerAs, Runnable, Fileable, Leaves, Running, Framed, runStarted};
 
 // The counts and the register behind a block that leaves the other settings.
 pub struct Noted {
@@ -105,7 +109,7 @@ impl Tally {
     }
 }
 
-// "1 to 9: board and buffers untouched, everything else returned is 0."
+// "1 to 9: board and buffers untouched, everything else returned is 0."; 28 "leaves and returns what 1 to 9 do".
 fn untouched(s: Settings, number: u8) -> Answer
     ensures { λ r. ⌜ r ≡ answerAs number nothing s ⌝ }
 {
@@ -242,6 +246,18 @@ fn run_blocks(s: Settings, m: &mut [u8], out: &mut [u8], t: &[u8], from: usize) 
     }
 }
 
+// A frame that asks for a first start, on a board that it is for: 28, or the files of one and then the blocks.
+fn run_started(s: Settings, m: &mut [u8], out: &mut [u8], t: &[u8], from: usize) -> Answer
+    requires { ⌜ Running (board s (now m)) (now out) (now t) from ⌝ }
+    ensures { λ r. ⌜ outcome r (now (m .exit)) (now (out .exit)) ≡ runStarted (board s (now (m .entry))) (now (out .entry)) (blocksAt (now (t .entry)) from) ⌝ }
+{
+    if m.len() < START_MEMORY {
+        return untouched(s, MEMORY_TOO_SMALL);
+    }
+    let begun = start(s, m);
+    run_blocks(begun, m, out, t, from)
+}
+
 // A frame that was read, on a sound board: 9, or its blocks.
 fn run_frame(
     s: Settings,
@@ -256,6 +272,9 @@ fn run_frame(
 {
     if !addressed(&t[header..from], s.own, s.address) {
         return untouched(s, NOT_ADDRESSED);
+    }
+    if starts(&t[header..from]) {
+        return run_started(s, m, out, t, from);
     }
     run_blocks(s, m, out, t, from)
 }
