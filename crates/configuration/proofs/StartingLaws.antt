@@ -13,19 +13,19 @@ use lib.ListN.{length, drop, length-append, drop-of-length-le}
 use Rattle.octets.specs.Choice.{among}
 use Rattle.octets.specs.Hex.{digit, value, isHex2, hex2, isHex4, hex4, inHex4}
 use Rattle.octets.specs.Carried.{capital}
-use Rattle.octets.specs.Buffer.{splice, overlay}
+use Rattle.octets.specs.Buffer.{zeros, splice, overlay}
 use Rattle.octets.proofs.Tests.{suc-less-one}
 use Rattle.buffers.proofs.Splices.{overlay-none, overlay-append, length-overlay}
-use Rattle.board.specs.Files.{sizeOf, distinct}
+use Rattle.board.specs.Files.{sizeOf, taken, filesOf, heads, distinct}
 use Rattle.board.specs.Kinds.{kindOf, isSizeOf, isStartCode, isStopCode, isCodesOf}
-use Rattle.board.specs.Board.{Board, board}
+use Rattle.board.specs.Board.{Board, board, filesOn}
 use Rattle.board.specs.Soundness.{isLabel, isProtection, isSize, isCodes, isRecord, sound}
 use Rattle.board.specs.declared.Settings.{Settings}
 use Rattle.effects.specs.Effects.{Effect, done, change}
 use Rattle.effects.specs.declared.Changed.{Changed}
 use Rattle.configuration.specs.Capitals.{capitalsFrom, listCapitals}
-use Rattle.configuration.specs.Records.{isRecords, labelsIn, needed, neededBy, refusal}
-use Rattle.configuration.specs.Configuration.{replace, configure}
+use Rattle.configuration.specs.Records.{isRecords, labelsIn, needed, neededBy, refusal, sizeIn, withSize, laid}
+use Rattle.configuration.specs.Configuration.{replaced, replace, configure}
 use Rattle.configuration.specs.Starting.{startRecord, startRecords, startList, START-MEMORY, started}
 use Rattle.configuration.proofs.ConfigurationLaws.{replaced-length, replaced-sound}
 
@@ -157,6 +157,19 @@ module _ (b : Board) (h : START-MEMORY ≤ length (b .memory)) where
   pub started-sound : sound b ≡ true → sound (started b) ≡ true
   unfolding started
   started-sound = replaced-sound b startList (start-fits (length (b .memory)) h)
+
+-- ---- the files then
+
+module _ (b : Board) where
+  pub started-files : started b .settings .files ≡ 26
+  unfolding started replaced
+  started-files = start-taken .count
+
+  pub started-records : heads (filesOn (started b)) ≡ startList
+  unfolding
+      started replaced laid withSize sizeIn sizeOf taken filesOf heads zeros
+      startList startRecords startRecord inHex4 digit hex4 hex2 value
+  started-records = refl
 
 -- as the code does it: the settings that replacing leaves
 pub start-done : (b : Board) (m : List ℕ) → m ≡ b .memory → START-MEMORY ≤ length m → (l : List ℕ) → l ≡ startList → (s : Settings) (m₁ : List ℕ) (r : Changed) →

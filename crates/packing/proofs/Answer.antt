@@ -38,7 +38,7 @@ module _ (k : ℕ) (f g j : List ℕ) (w : Joining k f g j) (b : Board) (o : Lis
   packed still =
       let p = w-joined k f g j w in
       promised
-      (packing b o f g j (p .header) (p .first) (p .second) (w-reads k f g j w) (p .one .reads) (p .other .reads)
+      (packing b o f g j (p .header) (p .first) (p .second) (w-reads k f g j w) (p .one .reads) (p .other .reads) (p .ordinary)
       (sym (ap (λ (q : Outcome). q .after .settings .address) one) ∙ still))
 
   -- so it is yes, if the first frame holds no command to set the serial address
@@ -47,5 +47,5 @@ module _ (k : ℕ) (f g j : List ℕ) (w : Joining k f g j) (b : Board) (o : Lis
       let p = w-joined k f g j w in
       let e : bs ≡ p .first = same-blocks f (headerCapitals h) (p .header) bs (p .first) (unfold inCapitals in ap inCapitals r) (p .one .reads) in
       promised
-      (packing-unless-set b o f g j (p .header) (p .first) (p .second) (w-reads k f g j w) (p .one .reads) (p .other .reads)
+      (packing-unless-set b o f g j (p .header) (p .first) (p .second) (w-reads k f g j w) (p .one .reads) (p .other .reads) (p .ordinary)
       (subst (λ (l : List Block). setsNoAddress l ≡ true) e n))

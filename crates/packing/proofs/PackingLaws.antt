@@ -8,7 +8,7 @@ use lib.ListN.{length, length-append}
 use borrow.Author.Tests.{eqb-true, ltb-false, le-ltb, not-true}
 use Rattle.octets.specs.Choice.{if_then_else_, _is_, _<?_}
 use Rattle.octets.proofs.Tests.{by-test, or-out-left, or-out-right, split}
-use Rattle.header.specs.Addressing.{addressed}
+use Rattle.header.specs.Addressing.{addressed, starts}
 use Rattle.body.specs.Body.{Block, isRead, readNotLast}
 use Rattle.reading.specs.Reading.{frame, read}
 use Rattle.reading.specs.Capitals.{inCapitals}
@@ -20,7 +20,7 @@ use Rattle.effects.proofs.ReplyLengths.{room-as}
 use Rattle.special.specs.Special.{setsAddress}
 use Rattle.commands.specs.Blocks.{runBlock}
 use Rattle.keeping.proofs.Keeping.{block-keeps}
-use Rattle.sign.specs.Run.{Outcome, untouched, onto, runBlocks, runFrame, run, next}
+use Rattle.sign.specs.Run.{Outcome, untouched, onto, runBlocks, begun, runFrame, run, next}
 use Rattle.sign.specs.declared.Tally.{Tally}
 use Rattle.sign.proofs.Alike.{run-capitals}
 use Rattle.sign.proofs.RunLaws.{none-zero, run-unsound, run-short, blocks-number}
@@ -67,25 +67,27 @@ module _ (b : Board) (o f : List ℕ) where
     unfolding runFrame
     run-away a = run-read ∙ rw a
 
-    run-here : fits h ≡ true → run b o f ≡ runBlocks (untouched 0 b o) ks
-    unfolding runFrame
-    run-here a = run-read ∙ rw a
+    -- a header that asks for no first start
+    run-here : starts h ≡ false → fits h ≡ true → run b o f ≡ runBlocks (untouched 0 b o) ks
+    unfolding runFrame begun
+    run-here t a = run-read ∙ rw (a, t)
 
   -- a run whose blocks set no address leaves it
-  run-address : (h : List ℕ) (ks : List Block) → inCapitals (read f) ≡ frame h ks → setsNoAddress ks ≡ true →
+  run-address : (h : List ℕ) (ks : List Block) → inCapitals (read f) ≡ frame h ks → starts h ≡ false → setsNoAddress ks ≡ true →
       run b o f .after .settings .address ≡ b .settings .address
-  run-address h ks r n =
+  run-address h ks r t n =
       let P : Outcome → Type 0 = λ x. x .after .settings .address ≡ b .settings .address in
       by-test (sound b)
       (λ e. by-test (length o <? replyRoom (b .memory)) (λ g. subst P (sym (run-short b o f e g)) refl)
-      (λ g. by-test (fits h) (λ a. subst P (sym (run-here e g h ks r a)) (blocks-address ks n (untouched 0 b o)))
+      (λ g. by-test (fits h) (λ a. subst P (sym (run-here e g h ks r t a)) (blocks-address ks n (untouched 0 b o)))
       (λ a. subst P (sym (run-away e g h ks r a)) refl)))
       (λ e. subst P (sym (run-unsound b o f e)) refl)
 
--- ---- the theorems: three frames of which the one reads as the two others joined, their headers in capitals
+-- ---- the theorems: three frames of which the one reads as the two others joined, their headers in capitals and not of type "z"
 
 module _ (b : Board) (o f g j h : List ℕ) (bs cs : List Block)
     (rj : inCapitals (read j) ≡ frame h (bs ++ cs)) (rf : inCapitals (read f) ≡ frame h bs) (rg : inCapitals (read g) ≡ frame h cs)
+    (t : starts h ≡ false)
   where
     -- where all three are refused with one number
     alike : (n : ℕ) → run b o j ≡ untouched n b o → run b o f ≡ untouched n b o → run b o g ≡ untouched n b o → Packed b o f g j
@@ -114,7 +116,7 @@ module _ (b : Board) (o f g j h : List ℕ) (bs cs : List Block)
 
       ran-first : run b o f ≡ first
       unfolding start first
-      ran-first = run-here b o f e l h bs rf a
+      ran-first = run-here b o f e l h bs rf t a
 
       -- the reply buffer has room for the second run too
       roomy : (length (first .reply) <? replyRoom (first .after .memory)) ≡ false
@@ -128,11 +130,11 @@ module _ (b : Board) (o f g j h : List ℕ) (bs cs : List Block)
           let adr : first .after .settings .address ≡ b .settings .address =
           sym (ap (λ (x : Outcome). x .after .settings .address) ran-first) ∙ still in
           ap (λ (x : Outcome). next x g) ran-first
-          ∙ run-here (first .after) (first .reply) g (p .sound (capitals-good f h bs rf .plain) e) roomy h cs rg (rw (p .own, adr) a)
+          ∙ run-here (first .after) (first .reply) g (p .sound (capitals-good f h bs rf .plain) e) roomy h cs rg t (rw (p .own, adr) a)
 
       ran-both : run b o j ≡ upon (first .tally) later
       unfolding start first later
-      ran-both = run-here b o j e l h (bs ++ cs) rj a ∙ counts-join b o bs cs
+      ran-both = run-here b o j e l h (bs ++ cs) rj t a ∙ counts-join b o bs cs
 
       later-length : upon (first .tally) later .tally .length ≡ later .tally .length
       unfolding plus
@@ -170,7 +172,7 @@ module _ (b : Board) (o f g j h : List ℕ) (bs cs : List Block)
 
     -- so if no block of the first frame sets the address
     pub packing-unless-set : setsNoAddress bs ≡ true → Packed b o f g j
-    packing-unless-set n = packing (run-address b o f h bs rf n)
+    packing-unless-set n = packing (run-address b o f h bs rf t n)
 
 -- ---- what the one equation says of the place of the first refused block
 

@@ -4,6 +4,7 @@ pub mod Beginning
 pub mod NotSound
 pub mod Steady
 pub mod Through
+pub mod Starting
 pub mod FreshBoards
 pub mod ErrorsLaws
 pub mod Alike

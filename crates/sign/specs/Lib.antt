@@ -3,4 +3,5 @@ pub mod Run
 pub mod Fresh
 pub mod Errors
 pub mod Counts
+pub mod Starts
 pub mod InnerRunning
