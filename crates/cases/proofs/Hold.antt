@@ -20,6 +20,7 @@ use Rattle.cases.specs.Renewals.{Answers, renewalsTable}
 use Rattle.cases.specs.Temperatures.{offsetsTable, Measures, temperaturesTable}
 use Rattle.cases.specs.Faults.{Shows as ShowsFault, registersTable, faultsTable}
 use Rattle.cases.specs.SmallLetters.{Shows as ShowsLetter, lettersTable, lettersShown}
+use Rattle.cases.specs.Starting.{ShowsStart, startsTable, startsShown}
 use Rattle.cases.specs.Witnesses.{Shows, witnesses}
 
 pub numbers : allHold numbersTable ≡ true
@@ -86,6 +87,16 @@ letters-shown =
     refl & refl & refl & refl & refl & refl & refl & refl & refl & refl
     & refl & refl
     & (λ b o. capitals-alike b o (bytes "_01Zaf,a?b_02AAHELLO_0301fb_04") (bytes "_01ZAF,a?B_02AAHELLO_0301FB_04") refl) & tt
+
+pub starts : allHold startsTable ≡ true
+unfolding numberOf blockNumber holds allHold startsTable bytes start inTurn onFresh base
+starts = refl
+
+pub starts-shown : Every ShowsStart startsShown
+unfolding startsShown bytes start inTurn onFresh base
+starts-shown =
+    (refl, refl, refl) & (refl, refl, refl) & refl & refl & refl & refl & refl & (refl, refl, refl) & refl & (refl, refl, refl)
+    & refl & (refl, refl, refl) & (refl, refl, refl) & (refl, refl, refl, refl) & (refl, refl, refl, refl) & refl & tt
 
 pub shown : Every Shows witnesses
 unfolding witnesses bytes start inTurn onFresh base

@@ -6,4 +6,5 @@ pub mod Renewals
 pub mod Temperatures
 pub mod Faults
 pub mod SmallLetters
+pub mod Starting
 pub mod Witnesses

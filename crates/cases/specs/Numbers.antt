@@ -122,8 +122,8 @@ numbersTable =
     ∷ row 5 (frames 64 (bytes "_01Z00_02E'_4G_04" ∷ [])) (frames 64 (bytes "_01Z00_02E'_4D_04" ∷ []))
     ∷ row 5 (frames 64 (bytes "_01Z00_02AA\u{7f}_04" ∷ [])) (frames 64 (bytes "_01Z00_02AA~_04" ∷ []))
     ∷ row 5 (frames 64 (bytes "_01Z00_02E'S_04_0" ∷ [])) (frames 64 (bytes "_01Z00_02E'S_04" ∷ []))
-    -- 6 "bad header, or "z""
-    ∷ row 6 (frames 64 (bytes "_01z00_02E'S_04" ∷ [])) (frames 64 (bytes "_01Z00_02E'S_04" ∷ []))
+    -- 6 "bad header"; of "z" see Starting
+    ∷ row 6 (frames 64 (bytes "_01y00_02E'S_04" ∷ [])) (frames 64 (bytes "_01Z00_02E'S_04" ∷ []))
     ∷ row 6 (frames 64 (bytes "_01s00,Z00_02E'S_04" ∷ [])) (frames 64 (bytes "_01r00,Z00_02E'S_04" ∷ []))
     ∷ row 6 (frames 64 (bytes "_01Z0G,Z00_02E'S_04" ∷ [])) (frames 64 (bytes "_01Z0F,Z00_02E'S_04" ∷ []))
     ∷ row 6 (frames 64 ((bytes "_01" ++ (times 16 (bytes "Z00,") ++ bytes "Z00_02E'S_04")) ∷ []))

@@ -41,7 +41,19 @@ fn put_record(list: &mut [u8], at: usize, label: u8)
     copy_at(
         list,
         at,
-        &[label, TEXT, UNLOCKED, ZERO, ZERO, NINE, SIX, F, F, ZERO, ZERO],
+        &[
+            label,
+            TEXT,
+            UNLOCKED,
+            ZERO,
+            ZERO,
+            NINE,
+            SIX,
+            F,
+            F,
+            ZERO,
+            ZERO,
+        ],
     );
 }
 

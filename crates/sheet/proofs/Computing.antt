@@ -13,9 +13,10 @@ use Rattle.commands.specs.Commands.{holding, putMessage, writeFile, getContent,
 use Rattle.configuration.specs.Capitals.{capitalsFrom}
 use Rattle.configuration.specs.Records.{isRecords, labelsIn, neededBy, needed, refusal, sizeIn, withSize, laid}
 use Rattle.configuration.specs.Configuration.{replaced, replace, configure}
+use Rattle.configuration.specs.Starting.{startRecord, startRecords, startList, started}
 use Rattle.special.specs.Special.{setTime, setSpeaker, setFormat, setDate, setAddress, setOffset, clearErrors, setBy, writeSpecial, tellTime, tellDate, tellSpeaker, tellPool, isTold, tell, afterTold, readSpecial}
 use Rattle.commands.specs.Blocks.{command, doBlock, runBlock}
-use Rattle.sign.specs.Run.{count, measure, onto, runBlocks, runFrame, run}
+use Rattle.sign.specs.Run.{count, measure, onto, runBlocks, begun, runFrame, run}
 use Rattle.sign.specs.Fresh.{fresh}
 use Rattle.frame.proofs.Computing.{writes}
 
@@ -34,9 +35,10 @@ unfolding
     replyOf replyRoom faultNoted
     holding putMessage writeFile getContent readFile
     capitalsFrom isRecords labelsIn neededBy needed refusal sizeIn withSize laid replaced replace configure
+    startRecord startRecords startList started
     setTime setSpeaker setFormat setDate setAddress setOffset clearErrors setBy writeSpecial
     tellTime tellDate tellSpeaker tellPool isTold tell afterTold readSpecial
     command doBlock runBlock
-    count measure onto runBlocks runFrame run
+    count measure onto runBlocks begun runFrame run
     fresh
 base = tt
