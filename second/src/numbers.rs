@@ -16,7 +16,7 @@ pub const BAD_LENGTH: Number = 3;
 pub const BAD_LEAD: Number = 4;
 /// "printable: bad escape or byte outside 20H to 7EH"
 pub const BAD_PRINTABLE: Number = 5;
-/// "bad header, or "z""
+/// "bad header, or "z""; request 11: "6 stays for "z" beside other pairs"
 pub const BAD_HEADER: Number = 6;
 /// "bad body"
 pub const BAD_BODY: Number = 7;
@@ -42,6 +42,8 @@ pub const LOW_BYTE: Number = 16;
 pub const WRONG_SUM_IN_INPUT: Number = 17;
 /// "result over 8,192 translated bytes or 64 blocks"
 pub const RESULT_TOO_LONG: Number = 18;
+/// Request 11: "19, joining a "z" header"
+pub const JOINS_FIRST_START: Number = 19;
 /// "block: wrong checksum"
 pub const WRONG_SUM: Number = 20;
 /// "unknown command byte or function label"
@@ -58,6 +60,8 @@ pub const BAD_LIST: Number = 25;
 pub const LABEL_TWICE: Number = 26;
 /// "no room"
 pub const NO_ROOM: Number = 27;
+/// Request 11: "28, memory below 4,186 bytes"
+pub const NO_ROOM_TO_START: Number = 28;
 /// Request 6: "30 for a date that does not exist"
 pub const NO_SUCH_DATE: Number = 30;
 /// Request 6: "31 for a count outside its range"

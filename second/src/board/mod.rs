@@ -3,6 +3,7 @@
 pub mod commands;
 pub mod configuration;
 pub mod files;
+pub mod first_start;
 pub mod fresh;
 pub mod index;
 pub mod port;

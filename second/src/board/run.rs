@@ -1,9 +1,10 @@
 //! Running one frame on a board.
 
 use super::commands::run_block;
+use super::first_start::first_start;
 use super::soundness::is_sound;
 use super::Board;
-use crate::frame::header::addressed;
+use crate::frame::header::{addressed, starts};
 use crate::frame::reading::{self, Frame};
 use crate::frame::translation::translate;
 use crate::numbers::{Number, NOT_ADDRESSED, NOT_SOUND, SHORT_REPLY_BUFFER};
@@ -25,13 +26,17 @@ pub struct Ran {
 
 /// Runs a frame. "Order of a run: 1, 2, empty (3), first byte (4), raw length
 /// (3), 5, translated length (3), lead (4), 6, 7, 8, 9." "1 to 9: board and buffers
-/// untouched, everything else returned is 0."
+/// untouched, everything else returned is 0." Request 11: "28, memory below 4,186
+/// bytes, straight after 9"; it "leaves and returns what 1 to 9 do".
 pub fn run(board: &mut Board, reply: &mut [u8], raw: &[u8]) -> Result<Ran, Number> {
     check_board(board)?;
     check_reply_buffer(board, reply)?;
     let translated = translate(raw)?;
     let frame = reading::read(&translated)?;
     check_addressed(&frame, board)?;
+    if starts(&frame.pairs) {
+        first_start(board)?;
+    }
     Ok(run_blocks(board, reply, &frame))
 }
 

@@ -7,10 +7,12 @@ use crate::numbers::{Number, BAD_HEADER};
 /// "1 to 16 pairs joined by commas".
 const MOST_PAIRS: usize = 16;
 
-/// The boards that a type code fits.
+/// The boards that a type code fits. Request 11: by a first start "every board is
+/// fitted" too.
 #[derive(Clone, Copy, Debug, PartialEq, Eq)]
 pub enum Fit {
     EveryBoard,
+    FirstStart,
     NoBoard,
     OwnType(u8),
 }
@@ -24,10 +26,11 @@ pub struct Pair {
 
 /// "A pair is a type code of Table 4": what it fits, or none where the byte
 /// is not taken. "Types "!", "?", "Z" fit every board; "0" and 22H none;
-/// others their own type"; "Type "z" is not taken".
+/// others their own type". Request 11 takes "z".
 pub fn fit_of(type_code: u8) -> Option<Fit> {
     match type_code {
         b'!' | b'?' | b'Z' => Some(Fit::EveryBoard),
+        b'z' => Some(Fit::FirstStart),
         b'0' | 0x22 => Some(Fit::NoBoard),
         0x23..=0x26 | 0x31 | 0x32 | 0x43..=0x45 | 0x55 | 0x5E | 0x61..=0x72 | 0x74 | 0x75 => {
             Some(Fit::OwnType(type_code))
@@ -53,9 +56,19 @@ pub fn split(bytes: &[u8]) -> Result<(&[u8], &[u8]), Number> {
 pub fn pairs(text: &[u8]) -> Result<Vec<Pair>, Number> {
     let pairs: Option<Vec<Pair>> = text.split(|&byte| byte == COMMA).map(pair).collect();
     match pairs {
-        Some(pairs) if pairs.len() <= MOST_PAIRS => Ok(pairs),
+        Some(pairs) if pairs.len() <= MOST_PAIRS && start_is_alone(&pairs) => Ok(pairs),
         _ => Err(BAD_HEADER),
     }
+}
+
+/// Request 11: "The type works only as a header's sole pair".
+fn start_is_alone(pairs: &[Pair]) -> bool {
+    pairs.len() == 1 || !starts(pairs)
+}
+
+/// Whether a header's frame is a "First start of a new sign".
+pub fn starts(pairs: &[Pair]) -> bool {
+    pairs.iter().any(|pair| pair.fit == Fit::FirstStart)
 }
 
 /// "A pair is a type code of Table 4 and two address characters".
@@ -103,7 +116,7 @@ pub fn addressed(pairs: &[Pair], own_type: u8, address: u8) -> bool {
 
 fn type_fits(fit: Fit, own_type: u8) -> bool {
     match fit {
-        Fit::EveryBoard => true,
+        Fit::EveryBoard | Fit::FirstStart => true,
         Fit::NoBoard => false,
         Fit::OwnType(code) => code == own_type,
     }

@@ -47,11 +47,13 @@ const NUMBERS: [(&str, &[u8]); 10] = [
     ("N", &[0, 10, 11]),
     (
         "R",
-        &[0, 1, 2, 3, 4, 5, 6, 7, 8, 9, 20, 21, 22, 23, 24, 25, 26, 27],
+        &[
+            0, 1, 2, 3, 4, 5, 6, 7, 8, 9, 20, 21, 22, 23, 24, 25, 26, 27, 28,
+        ],
     ),
     ("W", &[0, 6, 14, 15, 16, 18]),
     ("F", &[0, 3, 4, 5, 6, 7, 8, 14, 15, 17, 18]),
-    ("J", &[0, 3, 4, 5, 6, 7, 8, 12, 13, 14, 15, 17, 18]),
+    ("J", &[0, 3, 4, 5, 6, 7, 8, 12, 13, 14, 15, 17, 18, 19]),
     ("D", &[0, 30, 31, 32]),
     ("Y", &[0, 30]),
     ("B", &[0, 30]),
@@ -64,7 +66,7 @@ fn the_stored_cases_are_few_and_hold_every_number_of_every_call() {
     let rows = stored();
     let bytes: usize = rows.iter().map(|row| row.case.encode().len()).sum();
     assert!(rows.len() <= 2_000, "{} cases", rows.len());
-    assert!(bytes <= 600_000, "{bytes} bytes");
+    assert!(bytes <= 700_000, "{bytes} bytes");
     let told: BTreeSet<(u8, u8)> = rows
         .into_iter()
         .map(|row| (row.case.call(), number_told(row.case.answer())))
@@ -162,7 +164,7 @@ struct Meant {
 impl Meant {
     /// What a row's number and words mean on this board.
     fn new(expected: u8, words: &[&str], board: Board) -> Meant {
-        let is_block = expected >= 20;
+        let is_block = (20..28).contains(&expected);
         let mut meant = Meant {
             number: if is_block { 0 } else { expected },
             done: (expected != 0 && !is_block).then_some(0),

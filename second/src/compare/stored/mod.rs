@@ -19,7 +19,7 @@
 //!
 //! An output buffer without a length is 64 bytes long, 8 where the call is refused. What
 //! is expected is a number;
-//! of a run 20 and up are the number of its only refused block; other words are told by
+//! of a run 20 to 27 are the number of its only refused block; other words are told by
 //! tests/rules/stored.rs, which holds every row to them.
 
 pub mod notation;
@@ -30,13 +30,14 @@ use crate::board::run::REPLY_MARGIN;
 use crate::dates::Date;
 
 /// The tables, by their names.
-const TABLES: [(&str, &str); 7] = [
+const TABLES: [(&str, &str); 8] = [
     ("source", include_str!("../../../stored/source.txt")),
     ("frames", include_str!("../../../stored/frames.txt")),
     ("outputs", include_str!("../../../stored/outputs.txt")),
     ("boards", include_str!("../../../stored/boards.txt")),
     ("blocks", include_str!("../../../stored/blocks.txt")),
     ("lists", include_str!("../../../stored/lists.txt")),
+    ("starts", include_str!("../../../stored/starts.txt")),
     ("reckoning", include_str!("../../../stored/reckoning.txt")),
 ];
 
