@@ -6,11 +6,13 @@ use std::collections::BTreeSet;
 
 use second::board::commands::run_block;
 use second::board::files::{content_of, find, walk};
+use second::board::first_start::first_start;
 use second::board::record::{Kind, Record, RECORD_LENGTH};
 use second::board::run::Ran;
 use second::board::Board;
 use second::dates::Date;
 use second::frame::body::Block;
+use second::frame::header::starts;
 use second::frame::reading::read;
 use second::frame::sum::checksum;
 use second::frame::translation::translate;
@@ -27,11 +29,22 @@ pub fn look_at(facts: &mut Facts, board: &Board, raw: &[u8], ran: &Ran) {
     };
     let Ok(frame) = read(&translated) else { return };
     let mut now = board.clone();
+    let is_start = starts(&frame.pairs) && ran.done + ran.refused > 0;
+    if is_start {
+        first_start(&mut now).expect("a frame that ran");
+    }
+    let board = &now.clone();
     let mut labels = BTreeSet::new();
     for block in frame.blocks.iter().take(ran.done + ran.refused) {
         let before = now.clone();
         let number = run_block(&mut now, block).err().unwrap_or(0);
         look_at_block(facts, block, number, &before);
+        if is_start && before.settings.index == board.settings.index {
+            shown! { facts;
+                number == 0 => "start {} done", which(block);
+                number > 0 => "start block {number}";
+            }
+        }
         labels.insert(block.data.first());
         match (block.command, block.data) {
             (b'E', [b'$', list @ ..]) => look_at_list(facts, list, number, before.memory.len()),
@@ -56,14 +69,19 @@ pub fn look_at(facts: &mut Facts, board: &Board, raw: &[u8], ran: &Ran) {
     }
 }
 
+/// The command of a block and the function's label.
+fn which(block: &Block<'_>) -> String {
+    let label = block
+        .data
+        .first()
+        .filter(|_| b"EF".contains(&block.command));
+    let label = label.map(|&label| name(label));
+    format!("{}{}", name(block.command), label.unwrap_or_default())
+}
+
 fn look_at_block(facts: &mut Facts, block: &Block<'_>, number: u8, before: &Board) {
     let (command, data) = (block.command, block.data);
-    let label = data
-        .first()
-        .copied()
-        .filter(|_| b"EF".contains(&command))
-        .map(name);
-    let which = format!("{}{}", name(command), label.unwrap_or_default());
+    let which = which(block);
     let text: String = data.iter().skip(1).map(|&byte| name(byte)).collect();
     let register = before.settings.register;
     let (right, capitals) = (

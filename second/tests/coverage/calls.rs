@@ -9,7 +9,7 @@ use second::frame::header::{capitals, pairs};
 use second::frame::reforming::reform;
 use second::frame::translation::MOST_PRINTABLE;
 
-use crate::{blocks, boards, dates, frames, Facts};
+use crate::{blocks, boards, dates, frames, starts, Facts};
 
 pub fn facts(case: &Case) -> Facts {
     let mut facts = Facts::new();
@@ -52,6 +52,7 @@ pub fn facts(case: &Case) -> Facts {
             } = case
             {
                 of_run(&mut facts, board, reply.len(), frame, number);
+                starts::look_at(&mut facts, board, frame, ran, number);
                 blocks::look_at(&mut facts, board, frame, ran);
             }
         }
@@ -88,7 +89,8 @@ fn of_output(facts: &mut Facts, case: &Case, number: u8, length: usize, output: 
             data,
             ..
         } => {
-            frames::look_at_header(facts, header, number);
+            frames::look_at_header(facts, 'W', header, number);
+            starts::look_at_result(facts, 'W', form, header, number);
             let low = data.iter().chain([command]).any(|&byte| byte < 5);
             shown! { facts;
                 number == 15 && pairs(header).is_err() => "order 15 6";
@@ -100,6 +102,8 @@ fn of_output(facts: &mut Facts, case: &Case, number: u8, length: usize, output: 
         }
         Case::Reform { frame, .. } => {
             frames::look_at(facts, 'F', frame, number);
+            let (header, _) = frames::read_parts(frame).unwrap_or_default();
+            starts::look_at_result(facts, 'F', form, &header, number);
             frames::length_of(form, &[frame])
         }
         Case::Join { first, second, .. } => {
@@ -111,6 +115,7 @@ fn of_output(facts: &mut Facts, case: &Case, number: u8, length: usize, output: 
     shown! { facts;
         size > 8_000 => "result {form} {size} {}", u8::from(number == 18);
         number == 16 && size > 8_192 => "order 16 18";
+        number == 19 && size > room => "order 19 14";
         number == 0 && length == room => "{call} output exact {form}";
         number == 0 && length < room => "{call} output longer {form}";
         number == 14 && room > 0 => "{call} output short {form}";
@@ -140,7 +145,12 @@ fn of_join(facts: &mut Facts, [first, second]: [&Vec<u8>; 2], number: u8) {
             number == 13 && count > 64 => "order 13 18";
             number == 0 && one != two => "J letters";
             number == 12 && one.eq_ignore_ascii_case(&two) => "J case of a type";
-            number != 12 && number != 13 => "J blocks {count} {}", u8::from(number == 18);
+            !matches!(number, 12 | 13 | 19) => "J blocks {count} {}", u8::from(number == 18);
+        }
+        starts::look_at_join(facts, [&one, &two], number);
+        shown! { facts;
+            number == 19 && frames::ends_with_read(first) => "order 19 13";
+            number == 19 && count > 64 => "order 19 18";
         }
     }
 }

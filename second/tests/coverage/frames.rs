@@ -5,10 +5,10 @@ use second::board::settings::Settings;
 use second::bytes::{ANY_DIGIT, COMMA, STX};
 use second::frame::body::{has_read, is_read};
 use second::frame::forms::needs_escape;
-use second::frame::header::{addressed, fit_of, pairs, Fit};
+use second::frame::header::{addressed, fit_of, pairs, starts, Fit};
 use second::frame::lead::after_lead;
 use second::frame::reading::read;
-use second::frame::translation::translate;
+use second::frame::translation::{translate, Translated};
 use second::hex::byte_digits;
 
 use crate::{name, Facts};
@@ -22,6 +22,23 @@ pub fn read_parts(raw: &[u8]) -> Option<(Vec<u8>, Vec<Vec<u8>>)> {
     let frame = read(&translated).ok()?;
     let data = frame.blocks.iter().map(|block| block.data.to_vec());
     Some((frame.header.to_vec(), data.collect()))
+}
+
+/// The header of a frame with a good lead, whether or not it reads well.
+fn header_of(translated: &Translated<'_>) -> Vec<u8> {
+    let after = after_lead(&translated.bytes, translated.way).unwrap_or_default();
+    let header = after.split(|&byte| byte == STX).next();
+    header.unwrap_or_default().to_vec()
+}
+
+/// Whether a header is that of a first start.
+pub fn is_start(header: &[u8]) -> bool {
+    pairs(header).is_ok_and(|pairs| starts(&pairs))
+}
+
+/// Whether a frame, good or not, has the header of a first start.
+pub fn is_start_frame(raw: &[u8]) -> bool {
+    translate(raw).is_ok_and(|translated| is_start(&header_of(&translated)))
 }
 
 /// Whether the last block of a frame that reads well is a read.
@@ -84,14 +101,14 @@ pub fn look_at(facts: &mut Facts, call: char, raw: &[u8], number: u8) {
     let zeros = bytes.iter().take_while(|&&byte| byte == 0).count();
     let ones = bytes[zeros..].iter().take_while(|&&byte| byte == 1).count();
     let after = after_lead(bytes, translated.way).unwrap_or_default();
-    let header = after.split(|&byte| byte == STX).next().unwrap_or_default();
+    let header = header_of(&translated);
     let sums = bytes
         .split(|&byte| byte == 3)
         .skip(1)
         .filter(|sum| sum.len() > 4);
     let digits: Vec<u8> = sums.flat_map(|sum| sum[..4].to_vec()).collect();
     let starts = bytes.windows(2).filter(|pair| pair[0] == STX);
-    look_at_header(facts, header, number);
+    look_at_header(facts, call, &header, number);
     shown! { facts;
         true => "{way} lead {} {} {number}", zeros.min(6), ones.min(7);
         number == 6 && !after.contains(&STX) => "no STX 6";
@@ -131,18 +148,25 @@ pub fn look_at(facts: &mut Facts, call: char, raw: &[u8], number: u8) {
     }
 }
 
-fn is_small(byte: &u8) -> bool {
+pub fn is_small(byte: &u8) -> bool {
     (b'a'..=b'f').contains(byte)
 }
 
 /// A header that reads well, or what is wrong with it.
-pub fn look_at_header(facts: &mut Facts, header: &[u8], number: u8) {
+pub fn look_at_header(facts: &mut Facts, call: char, header: &[u8], number: u8) {
     let parts: Vec<&[u8]> = header.split(|&byte| byte == COMMA).collect();
     let is_bad = pairs(header).is_err() && number == 6;
     shown! { facts;
         true => "pairs {} {number}", parts.len();
         is_bad && header.is_empty() => "no pair 6";
         is_bad && header.ends_with(b",") => "comma at the end 6";
+    }
+    if is_bad && parts.len() <= 16 && parts.iter().all(|part| pairs(part).is_ok()) {
+        let edges = [parts.first(), parts.last()].map(|part| is_start(part.unwrap_or(&header)));
+        shown! { facts;
+            true => "{call} start beside 6";
+            true => "start beside {} {}", edges[0], edges[1];
+        }
     }
     for part in parts.iter().filter(|part| is_bad && part.len() == 3) {
         shown! { facts; fit_of(part[0]).is_none() => "header type 6"; }
@@ -166,17 +190,19 @@ pub fn look_at_pairs(facts: &mut Facts, raw: &[u8], settings: &Settings, number:
             [b'0', b'0'] => "00".into(),
             _ => digits.map(|(one, digit)| way_of(*one, digit)).collect(),
         };
-        let fits = addressed(&[*pair], own, address) && number == 0;
-        let is_mine = [Fit::EveryBoard, Fit::OwnType(own)].contains(&pair.fit);
+        let fits = addressed(&[*pair], own, address) && (number == 0 || number == 28);
+        let is_start = pair.fit == Fit::FirstStart;
+        let is_mine = is_start || [Fit::EveryBoard, Fit::OwnType(own)].contains(&pair.fit);
+        let who = if is_start { "start " } else { "" };
         let is_other = number == 9 && !is_mine && way == "00";
         shown! { facts;
-            fits => "reached by {way}";
+            fits => "{who}reached by {way}";
             fits && text[0] == own => "reached type {own:02X}";
             fits && text[0] != own => "reached by type {}", name(text[0]);
-            fits && text[1..].iter().any(is_small) => "reached by small";
-            number == 9 && is_mine && way.starts_with('x') => "missed high digit";
-            number == 9 && is_mine && way.ends_with('x') => "missed low digit";
-            number == 9 && is_mine && address == 0 => "missed at 00 by {way}";
+            fits && text[1..].iter().any(is_small) => "{who}reached by small";
+            number == 9 && is_mine && way.starts_with('x') => "{who}missed high digit";
+            number == 9 && is_mine && way.ends_with('x') => "{who}missed low digit";
+            number == 9 && is_mine && address == 0 => "{who}missed at 00 by {way}";
             is_other => "missed type";
             is_other && pair.fit == Fit::NoBoard => "missed type {}", name(text[0]);
             is_other && text[0].eq_ignore_ascii_case(&own) => "missed type by case";

@@ -54,4 +54,13 @@ T reading -128|127 0; T sum -137|-119|118|136; P fixed 00|10|11 1; P bit 0|1|2 c
 P bit 3|4|5|7 comes 1 is 0; P not mended; P settings of no board; order 1 2|frame; order 2 frame
 order 15 6|first; order 6 16; order 16 18; order first second; order 17 12; order 12 13; order 13 18; order 10 11; order 20 21|22
 order 22 23; order 25 26|27; order 26 27; order 30 31|32; order 31 32; order 1 33
+R 28; J 19; start in 4185|little 28; start in 4186|4187|much 0; order 1|2|7|8|9 28
+start missed with room; start over 0|1|3|26|64 files; start over contents
+start keeps the address|offset|register; start and done true refused true|false
+start and done false refused true; start reached by 00|==|=?|?=|??|small
+start missed at 00 by =?|?=|??; start missed high|low digit; start A|B|E$|E7|F$|F#|F* done
+start block 20|21|22|23|24|25|26|27
+R|W|F|J start beside 6; start beside true true|false; start beside false true
+W|F start 1|2|3 0; W|F start small; J start both 12|15|17|19; J start true|false 12
+J start letters 19; order 19 13|14|18
 "#;

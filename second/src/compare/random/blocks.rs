@@ -84,18 +84,22 @@ fn records_of(board: &Board) -> Vec<Record> {
 }
 
 /// Blocks for a board, of which so many of a hundred are refused. The last is a read
-/// most times where it may be one; the first is often a list.
+/// most times where it may be one; the first is often a list, but not after a start.
 pub fn blocks(dice: &mut Dice, mut board: Board, count: usize, refused: usize) -> Vec<Block> {
     let former = records_of(&board);
+    let lists = if dice.scope == "start" { 0 } else { 45 };
     let mut blocks = Vec::new();
     for place in 1..=count {
         let is_read = place == count && dice.chance(95);
         let number = match (dice.chance(refused), is_read) {
             (false, _) => "done",
             (_, true) => dice.sort("refused reads: 19 20, 18 21, 23 22, 26 23"),
+            _ if dice.scope == "start" => {
+                dice.sort("refused after a start: 2 20, 2 21, 2 22, 3 23, 3 24, 3 25, 3 26, 3 27")
+            }
             _ => dice.sort("refused: 6 20, 7 21, 27 22, 8 23, 3 24, 14 25, 3 26, 4 27"),
         };
-        let block = match place == 1 && count > 1 && dice.chance(45) {
+        let block = match place == 1 && count > 1 && dice.chance(lists) {
             true => Block::with(WRITE_SPECIAL, CONFIGURATION, &list(dice, &board, "done")),
             false => block(dice, &board, &former, number, is_read),
         };
@@ -161,8 +165,10 @@ fn block(dice: &mut Dice, board: &Board, former: &[Record], number: &str, is_rea
 fn done(dice: &mut Dice, board: &Board, is_read: bool, deck: &str) -> Block {
     let deck = format!("{deck} of {}", board.settings.files / 60);
     let label = match (is_read, deck.starts_with("done")) {
+        (true, true) if dice.scope == "start" => dice.turn(&deck, b"$#*."),
         (true, true) => dice.turn(&deck, b" !';$#**........"),
         (true, false) => dice.turn(&deck, b" !';$#*...."),
+        (false, true) if dice.scope == "start" => dice.turn(&deck, b" ;7T4$......"),
         (false, true) => dice.turn(&deck, b" !';7T4$$........"),
         (false, false) => dice.turn(&deck, b" !';7T4$.."),
     };

@@ -5,6 +5,7 @@ use super::dates::{self, Reach};
 use super::dice::Dice;
 use super::letters::{beside, other_case};
 use crate::board::files::{walk, File, MOST_FILES};
+use crate::board::first_start::LEAST_TO_START;
 use crate::board::index::{Begin, Index, FIRST_LABEL, LAST_LABEL, NO_PLACE};
 use crate::board::record::{Kind, Record, LAST_TIME_CODE, LONGEST_STRING, RECORD_LENGTH};
 use crate::board::register::CLEARED;
@@ -51,6 +52,22 @@ pub fn sound(dice: &mut Dice) -> Board {
         "most" => (MOST_MEMORY, dice.turn(sort, &[0, MOST_FILES])),
         _ => return small_board(dice),
     };
+    board_of(dice, length, count)
+}
+
+/// A sound board for a frame that starts it: memory on both sides of what the 26 files
+/// take, much more or too little, with files of its own or without.
+pub fn board_to_start(dice: &mut Dice) -> Board {
+    let any = dice.between(LEAST_TO_START + 2, 2 * LEAST_TO_START);
+    let sort = dice.sort("room to start: 6 just, 2 one short, 2 one left, 2 more, 2 few");
+    let length = match sort {
+        "just" => LEAST_TO_START,
+        "one short" => LEAST_TO_START - 1,
+        "one left" => LEAST_TO_START + 1,
+        "more" => dice.turn(sort, &[any, any, any, any, any, any, MOST_MEMORY]),
+        _ => return small_board(dice),
+    };
+    let count = dice.turn("files before a start", &[0, 1, 3, 26, MOST_FILES]);
     board_of(dice, length, count)
 }
 

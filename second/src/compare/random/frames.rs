@@ -159,16 +159,39 @@ pub fn reletter(dice: &mut Dice, header: &mut [u8]) {
 /// Any header that reads well.
 pub fn any_header(dice: &mut Dice) -> Vec<u8> {
     let pair = any_pair(dice);
-    among(dice, pair, any_pair)
+    match dice.sort("header: 4 any, 1 start") {
+        "start" => start_header(dice, [pair[1], pair[2]]),
+        _ => among(dice, pair, any_pair),
+    }
 }
 
-/// A header that does not read well: parted wrongly, of 17 pairs, or spoiled.
+/// The header of a first start: type "z" as the sole pair.
+pub fn start_header(dice: &mut Dice, address: [u8; 2]) -> Vec<u8> {
+    let mut header = vec![b'z', address[0], address[1]];
+    reletter(dice, &mut header);
+    header
+}
+
+/// Type "z" beside another pair, or beside itself.
+pub fn start_beside(dice: &mut Dice) -> Vec<u8> {
+    let [mut start, mut other] = [(); 2].map(|()| any_pair(dice));
+    start[0] = b'z';
+    other[0] = dice.turn("beside a start", &[b'z', b'Z', other[0]]);
+    let place = dice.turn("place of a start", &[[start, other], [other, start]]);
+    let mut header = place.join(&COMMA);
+    reletter(dice, &mut header);
+    header
+}
+
+/// A header that does not read well: parted wrongly, of 17 pairs, with "z" beside other
+/// pairs, or spoiled.
 pub fn bad_header(dice: &mut Dice) -> Vec<u8> {
     let mut header = any_header(dice);
-    let sort = dice.sort("bad header: 15 text, 3 many, 8 spoiled, 16 digit");
+    let sort = dice.sort("bad header: 16 text, 16 start, 3 many, 8 spoiled, 16 digit");
     while pairs(&header).is_ok() {
         match sort {
-            "text" => header = dice.text("||z00|Z00,|Z00,|,Z00|Z00,,Z00|Z00;Z00"),
+            "text" => header = dice.text("||y00|Z00,|Z00,|,Z00|Z00,,Z00|Z00;Z00"),
+            "start" => header = start_beside(dice),
             "many" => header = [any_pair(dice); MOST_PAIRS + 1].join(&COMMA),
             "digit" => {
                 let mut digits = header.split_off(header.len() - 2);
@@ -181,20 +204,28 @@ pub fn bad_header(dice: &mut Dice) -> Vec<u8> {
     header
 }
 
-/// A header that reaches the board or misses it; for some that miss the board gets
-/// another address or type. In the pairs "o" is the board's own type, "c" that in the
-/// other case, "n" one beside it, "e" any that fits; "h" and "l" are the digits of the
-/// address, "x" and "y" others.
-pub fn header_for(dice: &mut Dice, settings: &mut Settings, is_missing: bool) -> Vec<u8> {
+/// A header that reaches the board or misses it, or starts it if it reaches it; for some
+/// that miss the board gets another address or type. In the pairs "o" is the board's own
+/// type, "c" that in the other case, "n" one beside it, "e" any that fits; "h" and "l" are
+/// the digits of the address, "x" and "y" others.
+pub fn header_for(
+    dice: &mut Dice,
+    settings: &mut Settings,
+    is_missing: bool,
+    is_start: bool,
+) -> Vec<u8> {
     let mut pair = match (is_missing, settings.address) {
+        (true, _) if is_start => dice.text("zxl|zx?|zx?|zhy|z?y|z0?|z0?|z?0|z?0|z??|z??|z01"),
         (true, _) => dice.text("000|\"00|n00|c00|c00|exl|ex?|ehy|e?y|e0?|e?0|e??|e01"),
+        (false, 0) if is_start => b"z00".to_vec(),
         (false, 0) => dice.text("e00|o00"),
+        (false, _) if is_start => dice.text("z00|zhl|zhl|zh?|z?l|z??"),
         (false, _) => dice.text("e00|ehl|ehl|eh?|e?l|e??|o00|ohl|ohl|oh?|o?l|o??"),
     };
-    match &pair[..] {
-        b"c00" => settings.own_type = cased_type(dice, "type on a board"),
-        b"exl" | b"ex?" | b"ehy" | b"e?y" => settings.address = settings.address.max(0x11),
-        b"e0?" | b"e?0" | b"e??" | b"e01" if is_missing => settings.address = 0,
+    match (pair[0], &pair[1..]) {
+        (b'c', _) => settings.own_type = cased_type(dice, "type on a board"),
+        (_, b"xl" | b"x?" | b"hy" | b"?y") => settings.address = settings.address.max(0x11),
+        (_, b"0?" | b"?0" | b"??" | b"01") if is_missing => settings.address = 0,
         _ => {}
     }
     let own = settings.own_type;
@@ -215,6 +246,9 @@ pub fn header_for(dice: &mut Dice, settings: &mut Settings, is_missing: bool) ->
             _ => *byte,
         };
     }
+    if is_start {
+        return start_header(dice, [pair[1], pair[2]]);
+    }
     let other = if is_missing { no_pair } else { any_pair };
     among(dice, [pair[0], pair[1], pair[2]], other)
 }
@@ -222,8 +256,8 @@ pub fn header_for(dice: &mut Dice, settings: &mut Settings, is_missing: bool) ->
 /// A frame that is damaged in one thing, or in two.
 pub fn damaged(dice: &mut Dice, mut frame: Frame) -> Vec<u8> {
     let sort = dice.sort(
-        "damage of a frame: 7 empty, 3 first byte, 14 lead, 11 header, 2 no block, 6 command, \
-         2 data, 2 ETX, 3 sum, 10 sum digit, 6 EOT, 5 many, 13 read, 4 read and sum digit, \
+        "damage of a frame: 7 empty, 3 first byte, 14 lead, 14 header, 2 no block, 6 command, \
+         2 data, 2 ETX, 3 sum, 10 sum digit, 6 EOT, 5 many, 15 read, 4 read and sum digit, \
          2 header and sum digit, 12 escape, 4 cut escape, 15 unprintable, 10 length, \
          2 length and escape, 1 length and first byte, 3 byte, 1 cut",
     );

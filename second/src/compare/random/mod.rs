@@ -12,26 +12,29 @@ mod letters;
 use std::iter;
 
 use self::blocks::{blocks, to_each_file, Block};
-use self::boards::{damaged, own_types, small_board, sound};
+use self::boards::{board_to_start, damaged, own_types, small_board, sound};
 use self::dice::Dice;
 use self::frames::Frame;
 use super::answer::Given;
 use super::stream::Case;
+use crate::board::first_start::first_start;
 use crate::board::run::REPLY_MARGIN;
 use crate::board::soundness::LEAST_MEMORY;
 use crate::board::Board;
 use crate::frame::body::{is_read, MOST_BLOCKS};
 use crate::frame::translation::{MOST_PRINTABLE, MOST_TRANSLATED};
 
-/// How often each call is made in 719 cases.
-const CALLS: &str = "call: 32 N, 330 R, 54 W, 58 F, 86 J, 62 D, 36 Y, 31 B, 17 T, 13 P";
+/// How often each call is made in 734 cases.
+const CALLS: &str = "call: 32 N, 333 R, 56 W, 60 F, 94 J, 62 D, 36 Y, 31 B, 17 T, 13 P";
 /// What is damaged in the cases of a call. Sorts that stand twice come in more of the
 /// cases that have two damages.
-const RUN: &str = "damage of a run: 82 board, 2 reply, 13 header, 24 frame";
+const RUN: &str = "damage of a run: 82 board, 2 reply, 18 header, 26 frame";
 const WRITE: &str = "damage of a write: 2 form, 10 header, 6 command, 6 data, 9 long";
-const REFORM: &str = "damage of a re-forming: 2 form, 5 second, 2 second sum, 1 long alone";
-const JOIN: &str = "damage of a joining: 2 form, 17 first, 9 second, 8 second, 3 first sum, \
-    3 second sum, 3 header, 2 header, 2 read, 2 read, 2 blocks, 2 blocks, 1 long";
+const REFORM: &str =
+    "damage of a re-forming: 2 form, 5 second, 2 second sum, 1 beside, 1 long alone";
+const JOIN: &str = "damage of a joining: 2 form, 20 first, 9 second, 8 second, 3 first sum, \
+    3 second sum, 3 header, 2 header, 2 read, 2 read, 2 read, 2 blocks, 2 blocks, 6 start, \
+    1 beside, 1 long";
 
 /// Cases without end.
 pub fn random_cases(seed: u64) -> impl Iterator<Item = Case> {
@@ -79,22 +82,30 @@ fn fresh_case(dice: &mut Dice) -> Case {
     Case::Fresh { own_type, memory }
 }
 
-/// A run of a frame that reaches a sound board and is done in great part; or the
-/// board, the reply buffer, the header or the frame is damaged.
+/// A run of a frame that reaches a sound board and is done in great part, some behind a
+/// first start; or the board, the reply buffer, the header or the frame is damaged.
 fn run_case(dice: &mut Dice) -> Case {
     let hits = dice.damages(8, 1, RUN);
     let is_hit = |part| hits.contains(&part);
-    dice.scope = if hits.is_empty() {
-        "good run"
-    } else {
-        "damaged run"
+    let sort = match hits.is_empty() {
+        true => dice.sort("good run: 1 start, 13 good run"),
+        false => dice.sort("damaged run: 2 damaged start, 5 damaged run"),
     };
-    let mut board = match hits.is_empty() {
-        true => sound(dice),
-        false => small_board(dice),
+    dice.scope = sort;
+    let is_start = sort.ends_with("start");
+    let mut board = match sort {
+        "start" => board_to_start(dice),
+        "good run" => sound(dice),
+        "damaged start" if is_hit("header") && dice.chance(30) => board_to_start(dice),
+        _ => small_board(dice),
     };
-    let header = frames::header_for(dice, &mut board.settings, is_hit("header"));
-    let blocks = run_blocks(dice, &board, hits.is_empty());
+    let header = frames::header_for(dice, &mut board.settings, is_hit("header"), is_start);
+    let mut started = board.clone();
+    if is_start {
+        // The blocks are for the 26 files, or for those that stay where there is no room.
+        let _ = first_start(&mut started);
+    }
+    let blocks = run_blocks(dice, &started, hits.is_empty());
     let frame = Frame::new(dice, header, blocks);
     let frame = sent(dice, frame, is_hit("frame"));
     if is_hit("board") {
@@ -241,7 +252,7 @@ fn reform_case(dice: &mut Dice) -> Case {
 }
 
 fn join_case(dice: &mut Dice) -> Case {
-    let hits = dice.damages(7, 4, JOIN);
+    let hits = dice.damages(7, 5, JOIN);
     let form = form(dice, hits.contains(&"form"));
     let [first, second] = two_frames(dice, form, &hits);
     with_output(dice, |output| {
@@ -259,11 +270,17 @@ fn join_case(dice: &mut Dice) -> Case {
 fn two_frames(dice: &mut Dice, form: u8, hits: &[&str]) -> [Vec<u8>; 2] {
     let is_hit = |part| hits.contains(&part);
     let mut first = any_frame(dice, is_hit("read"));
+    if is_hit("start") {
+        first.header = frames::start_header(dice, [first.header[1], first.header[2]]);
+    }
     let mut second = any_frame(dice, true);
     second.header = first.header.clone();
     frames::reletter(dice, &mut second.header);
     if is_hit("header") {
         part_headers(dice, &mut first.header, &mut second.header);
+    }
+    if is_hit("beside") {
+        second.header = frames::start_beside(dice);
     }
     if is_hit("blocks") {
         let total = MOST_BLOCKS + dice.turn("blocks of two", &[0, 1, 1]);
@@ -291,16 +308,25 @@ fn two_frames(dice: &mut Dice, form: u8, hits: &[&str]) -> [Vec<u8>; 2] {
     [first, sent(dice, second, is_hit("second"))]
 }
 
-/// Two headers that were alike differ: in a type's case alone, in an address, by a
-/// pair more, or in all.
-fn part_headers(dice: &mut Dice, first: &mut [u8], second: &mut Vec<u8>) {
-    match dice.sort("headers: 2 case, 1 fit, 1 address, 1 pair, 1 all") {
+/// Two headers that were alike differ: in a type's case alone, of "z" too, in an address,
+/// by a pair more, or in all.
+fn part_headers(dice: &mut Dice, first: &mut Vec<u8>, second: &mut Vec<u8>) {
+    let other = if first[1] == b'0' { b'1' } else { b'0' };
+    match dice.sort("headers: 2 case, 4 start, 1 fit, 1 address, 1 pair, 1 all") {
+        "start" => {
+            first.truncate(3);
+            second.truncate(3);
+            (first[0], second[0]) = dice.turn("start", &[(b'z', b'Z'), (b'Z', b'z'), (b'z', b'z')]);
+            if first[0] == second[0] {
+                second[1] = other;
+            }
+        }
         "fit" => (first[0], second[0]) = (b'Z', b'!'),
         "case" => {
             first[0] = letters::cased_type(dice, "type of a header");
             second[0] = letters::other_case(first[0]);
         }
-        "address" => second[1] = if first[1] == b'0' { b'1' } else { b'0' },
+        "address" => second[1] = other,
         "pair" if second.len() < 60 => second.extend(b",Z00"),
         _ => *second = frames::any_header(dice),
     }
