@@ -11,6 +11,7 @@ use second::compare::random::random_cases;
 use second::compare::stream::Case;
 use second::frame::header::capitals;
 use second::frame::joining::join;
+use second::frame::lead::after_lead;
 use second::frame::reading::read;
 use second::frame::reforming::reform;
 use second::frame::translation::{translate, MOST_PRINTABLE};
@@ -148,6 +149,43 @@ fn a_refused_block_changes_nothing_but_the_register() {
         }
     }
     assert_often(refused, 500);
+}
+
+/// Request 11: the board "first gets, as by "$", files A to Z of 150 bytes each, TEXT,
+/// unlocked, always shown (start FF, stop 00), and then runs the blocks".
+#[test]
+fn a_first_start_does_what_a_list_and_the_same_blocks_do_in_turn() {
+    let files = (b'A'..=b'Z').flat_map(|label| [&[label], b"AU0096FF00".as_slice()].concat());
+    let list: Vec<u8> = [b'$'].into_iter().chain(files).collect();
+    let mut count = 0;
+    for (board, reply, frame) in runs() {
+        let Some((header, _)) = meaning(&frame) else {
+            continue;
+        };
+        if header[0] != b'z' {
+            continue;
+        }
+        let (mut started, mut reply_of_start) = (board.clone(), reply.clone());
+        let ran = answered(run(&mut started, &mut reply_of_start, &frame));
+        if matches!(ran.0, 0 | 28) {
+            assert_eq!(ran.0 == 0, board.memory.len() >= 4_186);
+        }
+        if ran.0 != 0 {
+            continue;
+        }
+        // The same frame under type "Z", behind a list.
+        let translated = translate(&frame).expect("a frame that ran");
+        let after = after_lead(&translated.bytes, translated.way).expect("a lead");
+        let same = [b"\0\0\0\0\0\x01Z", &after[1..]].concat();
+        let header = [b"Z", &header[1..]].concat();
+        let first = output_of(|output| write(1, &header, b'E', &list, output)).expect("a list");
+        let (mut board, mut reply) = (board, reply);
+        assert_eq!(answered(run(&mut board, &mut reply, &first)).1.done, 1);
+        assert_eq!(answered(run(&mut board, &mut reply, &same)), ran);
+        assert_eq!((board, reply), (started, reply_of_start));
+        count += 1;
+    }
+    assert_often(count, 20);
 }
 
 #[test]
