@@ -26,8 +26,8 @@ extern "C" {
 /* The version of header and library: a changed struct, number or call changes the first part, an added one the second part;
  * where only what a call answers has changed, the third. */
 #define PAGOZKIN_VERSION_MAJOR 5
-#define PAGOZKIN_VERSION_MINOR 0
-#define PAGOZKIN_VERSION_PATCH 1
+#define PAGOZKIN_VERSION_MINOR 1
+#define PAGOZKIN_VERSION_PATCH 0
 
 /* Marks every call: an answer that is thrown away hides a refusal, and a compiler that can warns of it. */
 #if defined(__GNUC__) || defined(__clang__)
@@ -44,6 +44,7 @@ extern "C" {
 #define PAGOZKIN_MOST_BLOCKS 64       /* "1 to 64 blocks" */
 #define PAGOZKIN_LEAST_MEMORY 64      /* "Memory is 64 to 32,768 bytes." */
 #define PAGOZKIN_MOST_MEMORY 32768    /* the same */
+#define PAGOZKIN_START_MEMORY 4186    /* memory that a frame with type "z" needs: 28 is "memory below 4,186 bytes" */
 #define PAGOZKIN_MOST_FILES 64        /* "It holds 0 to 64 files" */
 #define PAGOZKIN_RECORD 11            /* bytes of memory that a file takes besides its SIZE: "an 11-byte record" */
 #define PAGOZKIN_FIRST_LABEL 0x20     /* "for each label 20H to 7EH": the first of them */
@@ -88,7 +89,7 @@ enum {
     PAGOZKIN_WRONG_LENGTH = 3,     /* "input empty, over 8,192 bytes standard or 24,576 printable, or over 8,192 translated" */
     PAGOZKIN_WRONG_LEAD = 4,       /* "wrong first byte or lead" */
     PAGOZKIN_BAD_PRINTABLE = 5,    /* "printable: bad escape or byte outside 20H to 7EH" */
-    PAGOZKIN_BAD_HEADER = 6,       /* "bad header, or "z"" */
+    PAGOZKIN_BAD_HEADER = 6,       /* "bad header", and ""z" beside other pairs" */
     PAGOZKIN_BAD_BODY = 7,         /* "bad body" */
     PAGOZKIN_READ_NOT_LAST = 8,    /* "a read that is not last" */
     PAGOZKIN_NOT_ADDRESSED = 9,    /* "not addressed" */
@@ -100,7 +101,9 @@ enum {
     PAGOZKIN_WRONG_FORM = 15,      /* "form not 1, 2 or 3" */
     PAGOZKIN_BYTE_TOO_LOW = 16,    /* "command or data byte below 05H" */
     PAGOZKIN_WRONG_SUM = 17,       /* "input has a wrong checksum" */
-    PAGOZKIN_TOO_LONG = 18         /* "result over 8,192 translated bytes or 64 blocks" */
+    PAGOZKIN_TOO_LONG = 18,        /* "result over 8,192 translated bytes or 64 blocks" */
+    PAGOZKIN_START_JOINED = 19,    /* "joining a "z" header" */
+    PAGOZKIN_MEMORY_TOO_SMALL = 28 /* a frame with type "z": "memory below 4,186 bytes" */
 };
 
 /* "20 to 27 concern one block; the frame's number is 0." */
@@ -168,9 +171,9 @@ typedef struct pagozkin_tally {
 
 /* The outcome of a run. */
 typedef struct pagozkin_answer {
-    uint8_t number;             /* 0, or 1 to 9: "board and buffers untouched", the tally all 0 */
+    uint8_t number;             /* 0, or 1 to 9 or 28: "board and buffers untouched", the tally all 0 */
     pagozkin_tally tally;
-    pagozkin_settings settings; /* the next settings; with 1 to 9 those handed in */
+    pagozkin_settings settings; /* the next settings; with 1 to 9 and 28 those handed in */
 } pagozkin_answer;
 
 /* The outcome of making a fresh board. */
@@ -272,7 +275,10 @@ pagozkin_made pagozkin_fresh(uint8_t own, uint8_t *memory, size_t memory_len) PA
  * C must see to: memory valid for memory_len bytes. */
 uint8_t pagozkin_is_sound(pagozkin_settings settings, const uint8_t *memory, size_t memory_len) PAGOZKIN_MUST_USE;
 
-/* "running one frame on a board": 0, or 1 to 9. A reply "stands at the start of the reply buffer; nothing after it is touched".
+/* "running one frame on a board": 0, 1 to 9 or 28. A reply "stands at the start of the reply buffer; nothing after it is touched".
+ * A frame whose header is one pair of type "z", as "z00", is for the first start of a new sign: every board whose address fits "first
+ * gets, as by "$", files A to Z of 150 bytes each", TEXT and empty, and then runs the blocks. The files that it had are gone, whatever
+ * becomes of the blocks; of the settings the start changes files, unused and places alone. With 28, memory too small, nothing changes.
  * C must see to: memory, reply and frame valid for their lengths, and no byte in two of them. */
 pagozkin_answer pagozkin_run(pagozkin_settings settings, uint8_t *memory, size_t memory_len, uint8_t *reply, size_t reply_len,
                              const uint8_t *frame, size_t frame_len) PAGOZKIN_MUST_USE;
@@ -288,8 +294,9 @@ pagozkin_written pagozkin_write(uint8_t form, const uint8_t *header, size_t head
 pagozkin_written pagozkin_reform(uint8_t form, const uint8_t *frame, size_t frame_len, uint8_t *out,
                                  size_t out_len) PAGOZKIN_MUST_USE;
 
-/* "Joining puts the second frame's blocks after the first's under the common header.": 0, 15, 3 to 8, 17, 12, 13, 18 or 14.
+/* "Joining puts the second frame's blocks after the first's under the common header.": 0, 15, 3 to 8, 17, 12, 19, 13, 18 or 14.
  * "Headers that differ only in" small letters of their addresses "count as equal"; the common one is written in capitals.
+ * Frames with type "z" are never joined, 19: "Two such frames would empty the files twice", the joined one only once.
  * C must see to: first, second and out valid for their lengths, and no byte of out in the others. */
 pagozkin_written pagozkin_join(uint8_t form, const uint8_t *first, size_t first_len, const uint8_t *second, size_t second_len,
                                uint8_t *out, size_t out_len) PAGOZKIN_MUST_USE;

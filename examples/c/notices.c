@@ -1,5 +1,5 @@
 /* Two files are configured on a fresh board, two notices joined into one transmission and run, one is read back, the unused memory
- * is told, the sign's thermometer is set right, and it is asked which kind of fault it saw.
+ * is told, the sign's thermometer is set right, and it is asked which kind of fault it saw. Then a new sign is started.
  * README.md says how it is built and run; notices.stdout is what it prints. */
 #include <pagozkin.h>
 #include <stdio.h>
@@ -8,18 +8,33 @@
 #define MEMORY 512
 #define FRAME 256
 
-/* The board, and a buffer for its replies. */
+/* The board, and a buffer for its replies: both as large as the new sign's. */
 static pagozkin_settings settings;
-static uint8_t memory[MEMORY];
-static uint8_t reply[MEMORY + PAGOZKIN_REPLY_ROOM];
+static uint8_t memory[PAGOZKIN_START_MEMORY];
+static size_t memory_length;
+static uint8_t reply[PAGOZKIN_START_MEMORY + PAGOZKIN_REPLY_ROOM];
 
-/* A frame for every sign ("Z00"), summed, with one command. */
-static size_t write_frame(char command, const char *text, uint8_t out[FRAME])
+static void make_board(size_t length)
 {
-    pagozkin_written w = pagozkin_write(PAGOZKIN_SUMMED_FORM, (const uint8_t *)"Z00", 3, (uint8_t)command,
+    pagozkin_made made = pagozkin_fresh('C', memory, length);
+    settings = made.settings;
+    memory_length = length;
+    printf("fresh: %u\n", made.number);
+}
+
+/* A frame under a header, summed, with one command. */
+static size_t write_to(const char *header, char command, const char *text, uint8_t out[FRAME])
+{
+    pagozkin_written w = pagozkin_write(PAGOZKIN_SUMMED_FORM, (const uint8_t *)header, strlen(header), (uint8_t)command,
                                         (const uint8_t *)text, strlen(text), out, FRAME);
     printf("write %c: %u, %zu bytes\n", command, w.number, w.length);
     return w.length;
+}
+
+/* The same for every sign. */
+static size_t write_frame(char command, const char *text, uint8_t out[FRAME])
+{
+    return write_to("Z00", command, text, out);
 }
 
 /* The blocks of a frame, one by one. Those of a printable frame stand in the room. */
@@ -42,7 +57,7 @@ static void list_blocks(const uint8_t *frame, size_t length)
 /* Runs a frame on the board and keeps the next settings. */
 static size_t run(const uint8_t *frame, size_t length)
 {
-    pagozkin_answer a = pagozkin_run(settings, memory, MEMORY, reply, sizeof reply, frame, length);
+    pagozkin_answer a = pagozkin_run(settings, memory, memory_length, reply, sizeof reply, frame, length);
     settings = a.settings;
     printf("run: %u, done %u, refused %u\n", a.number, a.tally.done, a.tally.refused);
     return a.tally.length;
@@ -60,9 +75,7 @@ int main(void)
 {
     uint8_t first[FRAME], second[FRAME], joined[FRAME];
 
-    pagozkin_made made = pagozkin_fresh('C', memory, MEMORY);
-    settings = made.settings;
-    printf("fresh: %u\n", made.number);
+    make_board(MEMORY);
 
     run(first, write_frame('E', "$AAU0040FF00BAU0040FF00", first));
 
@@ -93,5 +106,12 @@ int main(void)
     length = run(first, write_frame('F', "*", first));
     print_bytes(reply, length);
     printf("register %02X\n", settings.errors);
+
+    /* An installer's first frame, type "z": the new sign has the files "A" to "Z", and the frame's own notice is in "A" already. */
+    make_board(PAGOZKIN_START_MEMORY);
+    run(first, write_to("z00", 'A', "ALEVEL 1 OPENS ON MONDAY", first));
+    printf("files: %u, unused: %u of %u bytes\n", settings.files, settings.unused, PAGOZKIN_START_MEMORY);
+    length = run(first, write_frame('B', "A", first));
+    print_bytes(reply, length);
     return 0;
 }

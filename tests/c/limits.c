@@ -146,6 +146,29 @@ static void counts(void)
     is("a file too long", with_files(1, fits + 1, PAGOZKIN_LEAST_MEMORY), PAGOZKIN_BLOCK_NO_ROOM);
 }
 
+/* Type "z" on a board with a STRING: too small by a byte it keeps memory and settings, else it has the files "A" to "Z" and no other. */
+static void starts(void)
+{
+    static const char start[] = "_01z00_02AAHELLO_04", other[] = "_01Z00_02AAHELLO_04";
+    static uint8_t kept[PAGOZKIN_START_MEMORY];
+    for (size_t length = PAGOZKIN_START_MEMORY - 1; length <= PAGOZKIN_START_MEMORY; length++) {
+        const int enough = length == PAGOZKIN_START_MEMORY;
+        pagozkin_settings s = pagozkin_fresh('C', memory, length).settings;
+        s = pagozkin_run(s, memory, length, reply, sizeof reply, BYTES("_01Z00_02E$SBL00080000_03_02GSFULL_04")).settings;
+        memcpy(kept, memory, length);
+        pagozkin_answer a = pagozkin_run(s, memory, length, reply, sizeof reply, BYTES(start));
+        is("a start", a.number, enough ? PAGOZKIN_DONE : PAGOZKIN_MEMORY_TOO_SMALL);
+        is("its blocks done", a.tally.done, enough);
+        is("the files after it", a.settings.files, enough ? 26 : 1);
+        is("the settings as they were", memcmp(&a.settings, &s, sizeof s) == 0, !enough);
+        is("the memory as it was", memcmp(memory, kept, length) == 0, !enough);
+        is("a sound board after it", pagozkin_is_sound(a.settings, memory, length), 1);
+    }
+    is("two starts joined", pagozkin_join(PAGOZKIN_PLAIN_FORM, BYTES(start), BYTES(start), out, sizeof out).number,
+       PAGOZKIN_START_JOINED);
+    is("two others joined", pagozkin_join(PAGOZKIN_PLAIN_FORM, BYTES(other), BYTES(other), out, sizeof out).number, PAGOZKIN_DONE);
+}
+
 /* The longest result: besides 12 bytes it is data, all of which are escaped. */
 static void results(void)
 {
@@ -202,6 +225,7 @@ int main(void)
     replies(PAGOZKIN_MOST_MEMORY);
     frames();
     counts();
+    starts();
     results();
     renewals();
     temperatures();

@@ -284,14 +284,15 @@ static size_t count_blocks(void)
     return count;
 }
 
-/* Whether is_sound, read and step say what the run says: 1; 3 to 8; so many blocks done and refused. */
+/* Whether is_sound, read and step say what the run says: 1; 3 to 8; so many blocks done and refused. With 9
+ * and 28 the frame reads too. */
 static int fits_run(void)
 {
     if ((answer.number == PAGOZKIN_NOT_SOUND) == sound)
         return 0;
     if (answer.number == PAGOZKIN_DONE)
         return places.number == PAGOZKIN_DONE && count_blocks() == (size_t)answer.tally.done + answer.tally.refused;
-    if (answer.number == PAGOZKIN_NOT_ADDRESSED)
+    if (answer.number == PAGOZKIN_NOT_ADDRESSED || answer.number == PAGOZKIN_MEMORY_TOO_SMALL)
         return places.number == PAGOZKIN_DONE;
     return answer.number <= PAGOZKIN_REPLY_TOO_SHORT || places.number == answer.number;
 }
