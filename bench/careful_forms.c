@@ -236,7 +236,7 @@ pagozkin_written careful_reform(uint8_t form, const uint8_t *frame, size_t frame
     return written(number, length);
 }
 
-/* ---- joining: "15, the first input's 3 to 8 and 17, the second's, 12, 13, 18, 14" */
+/* ---- joining: "15, the first input's 3 to 8 and 17, the second's, 12, 13, 18, 14", and 19 "straight after 12" */
 
 /* "Headers that differ only in this count as equal": in small letters of their addresses. */
 static int headers_differ(const careful_frame *a, const careful_frame *b)
@@ -276,6 +276,8 @@ pagozkin_written careful_join(uint8_t form, const uint8_t *first, size_t first_l
         return written(number, 0);
     if (headers_differ(&a, &b))
         return written(PAGOZKIN_HEADERS_DIFFER, 0);
+    if (careful_starts(&a)) /* and so does b */
+        return written(PAGOZKIN_START_JOINED, 0);
     if (facts.has_read)
         return written(PAGOZKIN_FIRST_HAS_READ, 0);
     facts.blocks += more.blocks;

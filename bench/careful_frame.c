@@ -84,7 +84,7 @@ int careful_is_own_type(uint8_t type)
            type == 0x32 || type == 0x55 || type == 0x5E || type == 0x74 || type == 0x75;
 }
 
-/* "a type code of Table 4"; "Type "z" is not taken." */
+/* "a type code of Table 4" that may stand beside others: not "z" */
 static int is_type(uint8_t type)
 {
     return type == 'Z' || type == '!' || type == '?' || type == '0' || type == 0x22 || careful_is_own_type(type);
@@ -99,8 +99,10 @@ static int is_address(uint8_t byte)
 const uint8_t *careful_pairs(const uint8_t *header, const uint8_t *end)
 {
     for (int pairs = 1; pairs <= PAGOZKIN_MOST_PAIRS; pairs++) {
-        if (end - header < PAIR || !is_type(header[0]) || !is_address(header[1]) || !is_address(header[2]))
+        if (end - header < PAIR || !is_address(header[1]) || !is_address(header[2]))
             return NULL;
+        if (!is_type(header[0])) /* "works only as a header's sole pair": no caller takes a comma behind it */
+            return pairs == 1 && header[0] == START_TYPE ? header + PAIR : NULL;
         header += PAIR;
         if (header == end || *header != ',')
             return header;

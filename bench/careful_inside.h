@@ -15,6 +15,7 @@ enum {
     HIGHEST_PRINTED = 0x7E,
     ESCAPE = 0x5F,         /* the "_" of an escape, which opens a printable frame too */
     PAIR = 3,              /* bytes of a header's pair; with its comma four */
+    START_TYPE = 'z',      /* "First start of a new sign." */
     SUM_DIGITS = 4,
     NO_DIGIT = 0x10        /* the value of what is no hex digit: a bit that no digit has */
 };
@@ -103,6 +104,12 @@ typedef struct careful_frame {
     uint8_t printable;
 } careful_frame;
 
+/* Whether the header is a pair of type "z": no other type stands beside it. */
+static inline int careful_starts(const careful_frame *frame)
+{
+    return frame->bytes[frame->header] == START_TYPE;
+}
+
 /* What the one walk over a body tells. */
 typedef struct careful_facts {
     size_t blocks;
@@ -112,7 +119,7 @@ typedef struct careful_facts {
     uint8_t has_read;   /* the last block is a read */
 } careful_facts;
 
-/* "1 to 16 pairs joined by commas": the first byte behind them, or NULL. */
+/* "1 to 16 pairs joined by commas", or one of type "z": the first byte behind them, or NULL. */
 const uint8_t *careful_pairs(const uint8_t *header, const uint8_t *end);
 
 /* Whether a type code is one that a board can have. */
@@ -160,6 +167,9 @@ typedef struct careful_board {
 /* "E" and "F", with label and data: 0, or 21 to 27. */
 uint8_t careful_set(careful_board *board, const uint8_t *data, size_t length);
 uint8_t careful_tell(careful_board *board, const uint8_t *data, size_t length);
+
+/* What type "z" does before the blocks run: 0, or 28. */
+uint8_t careful_start(careful_board *board);
 
 /* "A reply is 20 NUL, SOH, "000", STX, the write code (A, G or E), label, data, ETX, checksum, EOT.": where the data go, and the rest
  * around so many of them that add up to sum. */

@@ -148,10 +148,10 @@ static void run_blocks(pagozkin_answer *answer, careful_board *board, const care
 
 /* ---- whom a frame is for */
 
-/* "Types "!", "?", "Z" fit every board; "0" and 22H none; others their own type." */
+/* "Types "!", "?", "Z" fit every board; "0" and 22H none; others their own type."; "type "z": every board is fitted" */
 static int type_fits(uint8_t type, uint8_t own)
 {
-    return type == '!' || type == '?' || type == 'Z' || type == own; /* no board is a "0" or 22H */
+    return type == '!' || type == '?' || type == 'Z' || type == own || type == START_TYPE; /* no board is a "0" or 22H */
 }
 
 /* ""00" fits every address. Otherwise each character equals the address's digit or is "?", and such a pair never fits address 00" */
@@ -210,6 +210,8 @@ pagozkin_answer careful_run(pagozkin_settings settings, uint8_t *memory, size_t 
     board.reply = reply;
     board.reply_length = 0;
     answer.number = admit(&board, reply_len, frame, frame_len, room, &input);
+    if (answer.number == PAGOZKIN_DONE && careful_starts(&input)) /* "straight after 9" */
+        answer.number = careful_start(&board);
     if (answer.number == PAGOZKIN_DONE)
         run_blocks(&answer, &board, &input);
     answer.tally.length = board.reply_length;

@@ -17,6 +17,8 @@ enum {
     OFFSET = 'T'
 };
 
+enum { LETTERS = 26 /* "A to Z" */ };
+
 /* ---- E */
 
 static int is_decimal(uint8_t byte)
@@ -174,6 +176,19 @@ static uint8_t set_files(careful_board *board, const uint8_t *list, size_t lengt
     settings->files = (uint8_t)(length / PAGOZKIN_RECORD);
     settings->unused = (uint16_t)left;
     return PAGOZKIN_DONE;
+}
+
+/* "as by "$", files A to Z of 150 bytes each, TEXT, unlocked, always shown (start FF, stop 00)" */
+uint8_t careful_start(careful_board *board)
+{
+    uint8_t list[LETTERS * PAGOZKIN_RECORD];
+    if (board->memory_len < PAGOZKIN_START_MEMORY)
+        return PAGOZKIN_MEMORY_TOO_SMALL;
+    for (size_t i = 0; i < LETTERS; i++) {
+        memcpy(list + i * PAGOZKIN_RECORD, "?AU0096FF00", PAGOZKIN_RECORD);
+        list[i * PAGOZKIN_RECORD] = (uint8_t)('A' + i);
+    }
+    return set_files(board, list, sizeof list);
 }
 
 uint8_t careful_set(careful_board *board, const uint8_t *data, size_t length)
