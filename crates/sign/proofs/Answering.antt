@@ -1,13 +1,16 @@
 -- What a run answers, case by case.
 use Prim.Native.Nat.{ℕ, _<_, _≤_}
 use mathlib.Core.Path.{_≡_, sym, ap, _∙_}
-use mathlib.Core.Bool.{Bool, true, false, not}
+use mathlib.Core.Bool.{Bool, true, false, not, _&&_}
 use mathlib.Core.List.{List}
+use native.Mathlib.Omega.{arith}
 use borrow.Author.Needs.{needs}
-use borrow.Author.Tests.{lt-ltb, le-ltb, not-true, not-false}
+use borrow.Author.Tests.{eq-eqb, ne-eqb, lt-ltb, le-ltb, ltb-false, not-true, not-false}
 use lib.ListN.{length, take}
-use Rattle.octets.specs.Choice.{part}
+use Rattle.octets.specs.Choice.{if_then_else_, _is_, _<?_, part}
+use Rattle.octets.proofs.Tests.{by-test}
 use Rattle.header.specs.Addressing.{addressed, starts}
+use Rattle.body.specs.Body.{Block}
 use Rattle.body.specs.Steps.{blocksAt}
 use Rattle.reading.specs.Reading.{refused, frame, read}
 use Rattle.reading.specs.Places.{isPrintable, bareRead, Reads}
@@ -25,7 +28,7 @@ use Rattle.effects.proofs.ReplyLengths.{room-as}
 use Rattle.configuration.specs.Starting.{START-MEMORY, started}
 use Rattle.configuration.proofs.StartingLaws.{started-length, started-sound}
 use Rattle.sign.specs.Run.{nothing, outcome, untouched, runBlocks, begun, runFrame, run}
-use Rattle.sign.specs.InnerRunning.{answerAs, Running, Framed, runStarted}
+use Rattle.sign.specs.InnerRunning.{answerAs, Running, Framed, admission}
 use Rattle.sign.specs.declared.Tally.{Tally}
 use Rattle.sign.specs.declared.Answer.{Answer}
 use Rattle.sign.proofs.RunLaws.{run-unsound, run-short}
@@ -33,41 +36,75 @@ use Rattle.sign.proofs.RunLaws.{run-unsound, run-short}
 pub untouched-as : (n : ℕ) (s : Settings) (u : Tally) → u ≡ nothing → answerAs n u s ≡ answerAs n nothing s
 untouched-as n s u e = ap (λ (x : Tally). answerAs n x s) e
 
+-- ---- 9, 28
+
+module _ (own address : ℕ) (h : List ℕ) (room : ℕ) (x : Bool) (e : x ≡ addressed own address h) where
+  pub admit-away : not x ≡ true → 9 ≡ admission own address h room
+  unfolding admission
+  admit-away y = rw (← e, y)
+
+  module _ (y : not x ≡ false) (z : Bool) (g : z ≡ starts h) where
+    pub admit-small : (z && room <? START-MEMORY) ≡ true → 28 ≡ admission own address h room
+    unfolding admission
+    admit-small w = rw (← e, y, ← g, w)
+
+    pub admit-here : (z && room <? START-MEMORY) ≡ false → 0 ≡ admission own address h room
+    unfolding admission
+    admit-here w = rw (← e, y, ← g, w)
+
+pub ruleset admitting = (admit-away, admit-small, admit-here, needs)
+
+-- a run by that number
+admitted : (b : Board) (o h : List ℕ) (bs : List Block) (n : ℕ) → n ≡ admission (b .settings .own) (b .settings .address) h (length (b .memory)) →
+    runFrame b o (frame h bs) ≡ (if n is 0 then runBlocks (untouched 0 (begun b h) o) bs else untouched n b o)
+unfolding runFrame admission
+admitted b o h bs n e =
+    by-test (addressed (b .settings .own) (b .settings .address) h)
+    (λ a. by-test (starts h && length (b .memory) <? START-MEMORY) (λ c. rw (e, a, c)) (λ c. rw (e, a, c)))
+    (λ a. rw (e, a))
+
+-- where it is 0, a frame that asks for a first start has memory for it
+pub frame-room : (own address : ℕ) (h : List ℕ) (room n : ℕ) → n ≡ admission own address h room → n ≡ 0 →
+    (z : Bool) → z ≡ starts h → z ≡ true → START-MEMORY ≤ room
+unfolding admission
+frame-room own address h room n e f z g s =
+    by-test (addressed own address h)
+    (λ a.
+    by-test (room <? START-MEMORY)
+    (λ c. let no : n ≡ 28 = rw (a, ← g, s, c) at e in absurd (omega arith))
+    (ltb-false room START-MEMORY))
+    (λ a. let no : n ≡ 9 = rw a at e in absurd (omega arith))
+
 -- ---- a frame that was read
-module _ (b : Board) (o t : List ℕ) (i j : ℕ) (x : Bool) (e : x ≡ addressed (b .settings .own) (b .settings .address) (part i j t)) where
-  -- 9
-  pub frame-away : not x ≡ true → (r : Answer) → r ≡ answerAs 9 nothing (b .settings) → (m : List ℕ) → m ≡ b .memory →
+
+module _ (b : Board) (o t : List ℕ) (i j n : ℕ) (e : n ≡ admission (b .settings .own) (b .settings .address) (part i j t) (length (b .memory))) where
+  -- 9, 28
+  pub frame-refused : (n ≡ 0 → ⊥) → (r : Answer) → r ≡ answerAs n nothing (b .settings) → (m : List ℕ) → m ≡ b .memory →
       outcome r m o ≡ runFrame b o (frame (part i j t) (blocksAt t j))
-  unfolding runFrame
-  frame-away y r q m k = rw (q, k, ← e, y)
+  frame-refused f r q m k = rw (q, k) (sym (admitted b o (part i j t) (blocksAt t j) n e ∙ rw (ne-eqb n 0 f)))
 
-  module _ (y : not x ≡ false) (z : Bool) (g : z ≡ starts (part i j t)) (r : Answer) (m′ o′ : List ℕ) where
-    -- 28, or 0
-    pub frame-started : z ≡ true → outcome r m′ o′ ≡ runStarted b o (blocksAt t j) → outcome r m′ o′ ≡ runFrame b o (frame (part i j t) (blocksAt t j))
-    unfolding runFrame runStarted begun
-    frame-started h f = f ∙ rw (← e, y, ← g, h)
+  module _ (f : n ≡ 0) (z : Bool) (g : z ≡ starts (part i j t)) where
+    here : runFrame b o (frame (part i j t) (blocksAt t j)) ≡ runBlocks (untouched 0 (begun b (part i j t)) o) (blocksAt t j)
+    here = admitted b o (part i j t) (blocksAt t j) n e ∙ rw (eq-eqb n 0 f)
 
-    -- 0
-    pub frame-ran : z ≡ false → outcome r m′ o′ ≡ runBlocks (untouched 0 b o) (blocksAt t j) →
+    -- with a first start
+    pub frame-started : z ≡ true → (r : Answer) (m′ o′ : List ℕ) → outcome r m′ o′ ≡ runBlocks (untouched 0 (started b) o) (blocksAt t j) →
         outcome r m′ o′ ≡ runFrame b o (frame (part i j t) (blocksAt t j))
-    unfolding runFrame begun
-    frame-ran h f = f ∙ rw (← e, y, ← g, h)
+    unfolding begun
+    frame-started h r m′ o′ w = w ∙ sym (here ∙ rw (← g, h))
 
-pub ruleset framing = (untouched-as, frame-away, frame-started, frame-ran, needs)
+    -- without one
+    pub frame-ran : z ≡ false → (r : Answer) (m′ o′ : List ℕ) → outcome r m′ o′ ≡ runBlocks (untouched 0 b o) (blocksAt t j) →
+        outcome r m′ o′ ≡ runFrame b o (frame (part i j t) (blocksAt t j))
+    unfolding begun
+    frame-ran h r m′ o′ w = w ∙ sym (here ∙ rw (← g, h))
 
--- ---- one that asks for a first start
+pub ruleset framing = (untouched-as, frame-refused, frame-room, frame-started, frame-ran, needs)
 
-module _ {b : Board} {o t : List ℕ} {from : ℕ} (g : Running b o t from) (m : List ℕ) (i : m ≡ b .memory) where
-  -- 28
-  pub started-small : length m < START-MEMORY → (r : Answer) → r ≡ answerAs 28 nothing (b .settings) → outcome r m o ≡ runStarted b o (blocksAt t from)
-  unfolding runStarted
-  started-small h r q = rw (q, i, lt-ltb (length (b .memory)) START-MEMORY (rw i at h))
+-- ---- a first start: the board with its files
 
-  pub started-sound-before : sound b ≡ true
-  started-sound-before = g .ready .sound
-
-  -- the board with its files
-  module _ (h : START-MEMORY ≤ length m) (x : Board) (e : x ≡ started b) where
+module _ {b : Board} {o t : List ℕ} {from : ℕ} (g : Running b o t from) (m : List ℕ) (i : m ≡ b .memory) (h : START-MEMORY ≤ length m) where
+  module _ (x : Board) (e : x ≡ started b) where
     enough : START-MEMORY ≤ length (b .memory)
     enough = rw i at h
 
@@ -81,11 +118,11 @@ module _ {b : Board} {o t : List ℕ} {from : ℕ} (g : Running b o t from) (m :
           good = g .good;
         }
 
-    pub started-ran : (r : Answer) (m′ o′ : List ℕ) → outcome r m′ o′ ≡ runBlocks (untouched 0 x o) (blocksAt t from) → outcome r m′ o′ ≡ runStarted b o (blocksAt t from)
-    unfolding runStarted
-    started-ran r m′ o′ f = f ∙ rw (e, le-ltb (length (b .memory)) START-MEMORY enough)
+    pub started-ran : (r : Answer) (m′ o′ : List ℕ) → outcome r m′ o′ ≡ runBlocks (untouched 0 x o) (blocksAt t from) →
+        outcome r m′ o′ ≡ runBlocks (untouched 0 (started b) o) (blocksAt t from)
+    started-ran r m′ o′ f = rw e at f
 
-pub ruleset starting = (started-small, started-sound-before, started-running, started-ran, needs)
+pub ruleset starting = (started-running, started-ran, needs)
 
 -- ---- a board that is ready
 

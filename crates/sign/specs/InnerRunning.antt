@@ -1,11 +1,12 @@
 -- For contracts of inner functions only: what the parts of a run need and answer, by the definitions.
 use Prim.Native.Nat.{ℕ, _+_, _≤_, _<_}
 use mathlib.Core.Path.{_≡_}
-use mathlib.Core.Bool.{Bool, true, false}
+use mathlib.Core.Bool.{Bool, true, false, not, _&&_}
 use mathlib.Core.List.{List}
 use lib.ListN.{length}
 use Rattle.octets.specs.Choice.{if_then_else_, _<?_}
 use Rattle.octets.specs.Bytes.{BLOCKS}
+use Rattle.header.specs.Addressing.{addressed, starts}
 use Rattle.body.specs.Body.{Block}
 use Rattle.body.specs.Steps.{bodyAt}
 use Rattle.board.specs.Settings.{withErrors}
@@ -13,10 +14,10 @@ use Rattle.board.specs.Board.{Board, withSettings, withMemory}
 use Rattle.board.specs.declared.Settings.{Settings}
 use Rattle.effects.specs.Reply.{replyRoom}
 use Rattle.effects.specs.InnerLeaving.{Ready}
-use Rattle.configuration.specs.Starting.{START-MEMORY, started}
+use Rattle.configuration.specs.Starting.{START-MEMORY}
 use Rattle.commands.specs.Blocks.{runBlock}
 use Rattle.commands.specs.InnerDoing.{isSpecial, Indexed, OfBoard}
-use Rattle.sign.specs.Run.{Outcome, outcomeAs, untouched, onto, runBlocks}
+use Rattle.sign.specs.Run.{outcomeAs, onto}
 use Rattle.sign.specs.declared.Tally.{Tally}
 use Rattle.sign.specs.declared.Answer.{Answer}
 use Rattle.sign.specs.declared.Made.{Made}
@@ -59,6 +60,9 @@ pub record Framed (b : Board) (o t : List ℕ) (header from : ℕ) : Type 0 wher
   pub ordered : header ≤ from
   pub inside : from ≤ length t
 
--- the blocks of a frame that asks for a first start
-unfoldable pub runStarted : Board → List ℕ → List Block → Outcome
-runStarted b o bs = if length (b .memory) <? START-MEMORY then untouched 28 b o else runBlocks (untouched 0 (started b) o) bs
+-- why a frame of this header is not run on a board of this type, this address and so much memory: 9, 28; 0 where it is
+unfoldable pub admission : ℕ → ℕ → List ℕ → ℕ → ℕ
+admission own address h room =
+    if not (addressed own address h) then 9
+    else if starts h && room <? START-MEMORY then 28
+    else 0

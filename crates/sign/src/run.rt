@@ -26,7 +26,7 @@ use frame::step_from;
 use octets::bytes::BLOCKS;
 ghost use mathlib.Core.Path.{_≡_};
 ghost use mathlib.Core.Bool.{true, false};
-ghost use Prim.Native.Nat.{_+_, _<_};
+ghost use Prim.Native.Nat.{_+_, _<_, _≤_};
 ghost use lib.ListN.{length};
 ghost use Rattle.octets.specs.Choice.{part};
 ghost use Rattle.octets.specs.Bytes.{BLOCKS};
@@ -35,10 +35,11 @@ ghost use Rattle.body.specs.Steps.{blocksAt};
 ghost use Rattle.reading.specs.Reading.{frame, read};
 ghost use Rattle.reading.specs.Places.{isPrintable};
 ghost use Rattle.board.specs.Board.{board};
+ghost use Rattle.configuration.specs.Starting.{START-MEMORY, started};
 ghost use Rattle.effects.specs.InnerLeaving.{Ready};
 ghost use Rattle.commands.specs.Blocks.{runBlock};
 ghost use Rattle.sign.specs.Run.{nothing, count, measure, outcomeAs, outcome, untouched, onto, runBlocks, runFrame, run};
-ghost use Rattle.sign.specs.InnerRunning.{answerAs, Runnable, Fileable, Leaves, Running, Framed, runStarted};
+ghost use Rattle.sign.specs.InnerRunning.{answerAs, Runnable, Fileable, Leaves, Running, Framed, admission};
 
 // The counts and the register behind a block that leaves the other settings.
 pub struct Noted {
@@ -246,19 +247,32 @@ fn run_blocks(s: Settings, m: &mut [u8], out: &mut [u8], t: &[u8], from: usize) 
     }
 }
 
-// A frame that asks for a first start, on a board that it is for: 28, or the files of one and then the blocks.
+// The blocks of a frame that asks for a first start: the board "first gets" its files.
 fn run_started(s: Settings, m: &mut [u8], out: &mut [u8], t: &[u8], from: usize) -> Answer
     requires { ⌜ Running (board s (now m)) (now out) (now t) from ⌝ }
-    ensures { λ r. ⌜ outcome r (now (m .exit)) (now (out .exit)) ≡ runStarted (board s (now (m .entry))) (now (out .entry)) (blocksAt (now (t .entry)) from) ⌝ }
+    requires { ⌜ START-MEMORY ≤ length (now m) ⌝ }
+    ensures { λ r. ⌜ outcome r (now (m .exit)) (now (out .exit)) ≡ runBlocks (untouched 0 (started (board s (now (m .entry)))) (now (out .entry))) (blocksAt (now (t .entry)) from) ⌝ }
 {
-    if m.len() < START_MEMORY {
-        return untouched(s, MEMORY_TOO_SMALL);
-    }
     let begun = start(s, m);
     run_blocks(begun, m, out, t, from)
 }
 
-// A frame that was read, on a sound board: 9, or its blocks.
+// Why a frame of this header is not run: 9, and 28 "straight after 9"; 0 where it is.
+fn admission(h: &[u8], own: u8, address: u8, room: usize) -> u8
+    ensures { λ r. ⌜ r ≡ admission own address (now (h .entry)) room ⌝ }
+{
+    let away = !addressed(h, own, address);
+    let small = starts(h) & (room < START_MEMORY);
+    if away {
+        return NOT_ADDRESSED;
+    }
+    if small {
+        return MEMORY_TOO_SMALL;
+    }
+    0
+}
+
+// A frame that was read, on a sound board: 9, 28, or its blocks.
 fn run_frame(
     s: Settings,
     m: &mut [u8],
@@ -270,8 +284,9 @@ fn run_frame(
     requires { ⌜ Framed (board s (now m)) (now out) (now t) header from ⌝ }
     ensures { λ r. ⌜ outcome r (now (m .exit)) (now (out .exit)) ≡ runFrame (board s (now (m .entry))) (now (out .entry)) (frame (part header from (now (t .entry))) (blocksAt (now (t .entry)) from)) ⌝ }
 {
-    if !addressed(&t[header..from], s.own, s.address) {
-        return untouched(s, NOT_ADDRESSED);
+    let number = admission(&t[header..from], s.own, s.address, m.len());
+    if number != 0 {
+        return untouched(s, number);
     }
     if starts(&t[header..from]) {
         return run_started(s, m, out, t, from);

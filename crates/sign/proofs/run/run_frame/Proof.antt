@@ -2,17 +2,17 @@ use Rattle.sign.proofs.Answering.{framing}
 use Rattle.sign.proofs.run.run_frame.Statement.{statement}
 use Rattle.sign.proofs.run.run_frame.Tie as tie
 
-sub-addressed : tie.Need-sub-addressed
-sub-addressed c = search framing
+sub-admission : tie.Need-sub-admission
+sub-admission c = search framing
 
-part-addressed-start : tie.Need-part-addressed-start
-part-addressed-start c = search framing
+part-admission-start : tie.Need-part-admission-start
+part-admission-start c = search framing
 
-part-addressed-end : tie.Need-part-addressed-end
-part-addressed-end c = search framing
+part-admission-end : tie.Need-part-admission-end
+part-admission-end c = search framing
 
-addressed-requires : tie.Need-addressed-requires
-addressed-requires c κs = search framing
+admission-requires : tie.Need-admission-requires
+admission-requires c κs = search framing
 
 untouched-requires : tie.Need-untouched-requires
 untouched-requires c κs = search framing
@@ -60,10 +60,10 @@ pub run-frame-spec : {M : Type 1} → statement M
 run-frame-spec =
     tie.close
     (tie.spec
-    sub-addressed
-    part-addressed-start
-    part-addressed-end
-    addressed-requires
+    sub-admission
+    part-admission-start
+    part-admission-end
+    admission-requires
     untouched-requires
     returns
     sub-starts

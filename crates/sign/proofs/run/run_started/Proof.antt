@@ -2,12 +2,6 @@ use Rattle.sign.proofs.Answering.{starting}
 use Rattle.sign.proofs.run.run_started.Statement.{statement}
 use Rattle.sign.proofs.run.run_started.Tie as tie
 
-untouched-requires : tie.Need-untouched-requires
-untouched-requires c κs = search starting
-
-returns : tie.Need-returns
-returns c = search starting
-
 start-requires : tie.Need-start-requires
 start-requires c κs = search starting
 
@@ -20,17 +14,9 @@ same-length c = search starting
 same-length-2 : tie.Need-same-length-2
 same-length-2 c = search starting
 
-returns-2 : tie.Need-returns-2
-returns-2 c = search starting
+returns : tie.Need-returns
+returns c = search starting
 
 pub run-started-spec : {M : Type 1} → statement M
 run-started-spec =
-    tie.close
-    (tie.spec
-    untouched-requires
-    returns
-    start-requires
-    run-blocks-requires
-    same-length
-    same-length-2
-    returns-2)
+    tie.close (tie.spec start-requires run-blocks-requires same-length same-length-2 returns)
