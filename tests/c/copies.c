@@ -65,7 +65,7 @@ int main(void)
 {
     /* around the blocks */
     size_t one = counted("AAHELLO", 1);
-    at_most("a run of one write", one, 8);
+    at_most("a run of one write", one, 7);
     /* for a block that changes no setting: none */
     IS(counted("AAHELLO", 2), one);
     IS(counted("AAHELLO", 60), one);
@@ -80,7 +80,7 @@ int main(void)
     for (size_t i = 0; i < sizeof sets / sizeof sets[0]; i++)
         at_most(sets[i], counted(sets[i], 61) - counted(sets[i], 1), 60 * 4);
     static const char list[] = "E$AAU0040FF00SBL00080000";
-    at_most(list, counted(list, 61) - counted(list, 1), 60 * 3);
+    at_most(list, counted(list, 61) - counted(list, 1), 60 * 5);
     static const char *const tells[] = {"F ", "F!", "F'", "F;", "F$", "F#", "F*"};
     for (size_t i = 0; i < sizeof tells / sizeof tells[0]; i++)
         at_most(tells[i], counted(tells[i], 1), one + 3);

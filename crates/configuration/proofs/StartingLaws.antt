@@ -16,17 +16,20 @@ use Rattle.octets.specs.Carried.{capital}
 use Rattle.octets.specs.Buffer.{zeros, splice, overlay}
 use Rattle.octets.proofs.Tests.{suc-less-one}
 use Rattle.buffers.proofs.Splices.{overlay-none, overlay-append, length-overlay}
+use Rattle.board.specs.Settings.{withFiles}
 use Rattle.board.specs.Files.{sizeOf, taken, filesOf, heads, distinct}
 use Rattle.board.specs.Kinds.{kindOf, isSizeOf, isStartCode, isStopCode, isCodesOf}
 use Rattle.board.specs.Board.{Board, board, filesOn}
 use Rattle.board.specs.Soundness.{isLabel, isProtection, isSize, isCodes, isRecord, sound}
 use Rattle.board.specs.declared.Settings.{Settings}
-use Rattle.effects.specs.Effects.{Effect, done, change}
-use Rattle.effects.specs.declared.Changed.{Changed}
+use Rattle.board.proofs.Inside.{sound-most}
+use Rattle.effects.specs.Effects.{done}
 use Rattle.configuration.specs.Capitals.{capitalsFrom, listCapitals}
 use Rattle.configuration.specs.Records.{isRecords, labelsIn, needed, neededBy, refusal, sizeIn, withSize, laid}
 use Rattle.configuration.specs.Configuration.{replaced, replace, configure}
 use Rattle.configuration.specs.Starting.{startRecord, startRecords, startList, START-MEMORY, started}
+use Rattle.configuration.specs.InnerFiling.{Listed, Laid}
+use Rattle.configuration.specs.declared.Kept.{Kept}
 use Rattle.configuration.proofs.ConfigurationLaws.{replaced-length, replaced-sound}
 
 -- ---- the list
@@ -136,14 +139,10 @@ unfolding refusal
 start-no-room room h = let t = start-taken in rw (t .good, t .count, t .apart, t .takes, lt-ltb room 4186 h)
 
 module _ (b : Board) (h : START-MEMORY ≤ length (b .memory)) where
-  replace-start : replace b startList ≡ done (started b)
-  unfolding replace started
-  replace-start = rw (start-fits (length (b .memory)) h)
-
   -- "as by "$"": the board is that which E "$" with this list leaves
   pub as-configured : configure b startList ≡ done (started b)
-  unfolding configure
-  as-configured = ap (replace b) capitals ∙ replace-start
+  unfolding configure replace started
+  as-configured = ap (replace b) capitals ∙ rw (start-fits (length (b .memory)) h)
     where
       capitals : listCapitals startList ≡ startList
       capitals = unfold capitalsFrom capital startList startRecords startRecord inHex4 digit in refl
@@ -171,9 +170,18 @@ module _ (b : Board) where
       startList startRecords startRecord inHex4 digit hex4 hex2 value
   started-records = refl
 
--- as the code does it: the settings that replacing leaves
-pub start-done : (b : Board) (m : List ℕ) → m ≡ b .memory → START-MEMORY ≤ length m → (l : List ℕ) → l ≡ startList → (s : Settings) (m₁ : List ℕ) (r : Changed) →
-    change (board s m₁) r ≡ replace b l → board (r .settings) m₁ ≡ started b
-start-done b m i h l e s m₁ r g = ap (λ (x : Effect). x .after) (g ∙ ap (replace b) e ∙ replace-start b (rw i at h))
+-- ---- as the code does it
 
-pub ruleset starting = (start-done, list-length, needs)
+-- l is the list that it has made
+module _ (l : List ℕ) (e : l ≡ startList) where
+  pub start-listed : (m : List ℕ) → START-MEMORY ≤ length m → length m ≤ 32768 → Listed m l 26
+  start-listed m h o =
+      let t = start-taken in
+      rw e (record { good = t .good; all = sym (t .count); room = rw (t .takes) h; short = o })
+
+  pub start-done : (m m₁ : List ℕ) (k : Kept) → Laid m l 26 m₁ k → (b : Board) → m ≡ b .memory → (s : Settings) →
+      s ≡ withFiles (b .settings) 26 (k .unused) (k .places) → board s m₁ ≡ started b
+  unfolding started replaced
+  start-done m m₁ k g b i s j = rw (j, g .left, g .noted, g .stored, e, i, start-taken .count)
+
+pub ruleset starting = (list-length, start-listed, start-done, sound-most, needs)

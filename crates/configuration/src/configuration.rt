@@ -15,7 +15,7 @@ ghost use Rattle.effects.specs.Effects.{change};
 ghost use Rattle.configuration.specs.Configuration.{replace, configure};
 
 // A list in capitals is refused, or all files are replaced.
-pub fn replace(s: Settings, m: &mut [u8], list: &[u8]) -> Changed
+fn replace(s: Settings, m: &mut [u8], list: &[u8]) -> Changed
     requires { ⌜ sound (board s (now m)) ≡ true ⌝ }
     ensures { λ r. ⌜ change (board s (now (m .exit))) r ≡ replace (board s (now (m .entry))) (now (list .entry)) ⌝ }
 {

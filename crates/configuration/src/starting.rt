@@ -1,6 +1,6 @@
 // Request 11, "First start of a new sign": the board "first gets, as by "$", files A to Z of 150 bytes each, TEXT, unlocked, always shown
 // (start FF, stop 00)".
-use crate::configuration::replace;
+use crate::records::lay;
 use board::Settings;
 use board::files::RECORD;
 use board::files::TEXT;
@@ -81,6 +81,7 @@ pub fn start(s: Settings, m: &mut [u8]) -> Settings
 {
     let mut list = [0u8; LIST];
     put_list(&mut list);
-    let changed = replace(s, m, &list);
-    changed.settings
+    let kept = lay(m, &list, COUNT);
+    let places = kept.places;
+    s.with_files(COUNT as u8, kept.unused, places)
 }

@@ -8,11 +8,17 @@ slice-aggregate-put-list c = search starting
 put-list-requires : tie.Need-put-list-requires
 put-list-requires c κs = search starting
 
-slice-aggregate-replace : tie.Need-slice-aggregate-replace
-slice-aggregate-replace c = search starting
+slice-aggregate-lay : tie.Need-slice-aggregate-lay
+slice-aggregate-lay c = search starting
 
-replace-requires : tie.Need-replace-requires
-replace-requires c κs = search starting
+lay-requires : tie.Need-lay-requires
+lay-requires c κs = search starting
+
+cast-with-files : tie.Need-cast-with-files
+cast-with-files c = search starting
+
+with-files-requires : tie.Need-with-files-requires
+with-files-requires c κs = search starting
 
 same-length : tie.Need-same-length
 same-length c = search starting
@@ -26,7 +32,9 @@ start-spec =
     (tie.spec
     slice-aggregate-put-list
     put-list-requires
-    slice-aggregate-replace
-    replace-requires
+    slice-aggregate-lay
+    lay-requires
+    cast-with-files
+    with-files-requires
     same-length
     returns)
