@@ -26,17 +26,17 @@ use Rattle.effects.specs.Reply.{replyRoom}
 use Rattle.effects.specs.InnerLeaving.{Ready}
 use Rattle.effects.proofs.ReplyLengths.{room-as}
 use Rattle.configuration.specs.Starting.{START-MEMORY, started}
-use Rattle.configuration.proofs.StartingLaws.{started-length, started-sound}
-use Rattle.sign.specs.Run.{nothing, outcome, untouched, runBlocks, begun, runFrame, run}
+use Rattle.sign.specs.Run.{nothing, Outcome, outcome, untouched, runBlocks, begun, runFrame, run}
 use Rattle.sign.specs.InnerRunning.{answerAs, Running, Framed, admission}
 use Rattle.sign.specs.declared.Tally.{Tally}
 use Rattle.sign.specs.declared.Answer.{Answer}
 use Rattle.sign.proofs.RunLaws.{run-unsound, run-short}
+use Rattle.sign.proofs.Beginning.{begun-keeps}
 
 pub untouched-as : (n : ℕ) (s : Settings) (u : Tally) → u ≡ nothing → answerAs n u s ≡ answerAs n nothing s
 untouched-as n s u e = ap (λ (x : Tally). answerAs n x s) e
 
--- ---- 9, 28
+-- ---- 9, 28, or 0: why a frame is not run
 
 module _ (own address : ℕ) (h : List ℕ) (room : ℕ) (x : Bool) (e : x ≡ addressed own address h) where
   pub admit-away : not x ≡ true → 9 ≡ admission own address h room
@@ -63,17 +63,54 @@ admitted b o h bs n e =
     (λ a. by-test (starts h && length (b .memory) <? START-MEMORY) (λ c. rw (e, a, c)) (λ c. rw (e, a, c)))
     (λ a. rw (e, a))
 
--- where it is 0, a frame that asks for a first start has memory for it
-pub frame-room : (own address : ℕ) (h : List ℕ) (room n : ℕ) → n ≡ admission own address h room → n ≡ 0 →
-    (z : Bool) → z ≡ starts h → z ≡ true → START-MEMORY ≤ room
+-- where it is 0, a board that starts has memory for it
+pub large-enough : (own address : ℕ) (h : List ℕ) (room n : ℕ) → n ≡ admission own address h room → n ≡ 0 → starts h ≡ true → START-MEMORY ≤ room
 unfolding admission
-frame-room own address h room n e f z g s =
+large-enough own address h room n e f s =
     by-test (addressed own address h)
     (λ a.
     by-test (room <? START-MEMORY)
-    (λ c. let no : n ≡ 28 = rw (a, ← g, s, c) at e in absurd (omega arith))
+    (λ c. let no : n ≡ 28 = rw (a, s, c) at e in absurd (omega arith))
     (ltb-false room START-MEMORY))
     (λ a. let no : n ≡ 9 = rw a at e in absurd (omega arith))
+
+-- ---- the board before the first block
+
+module _ (h : List ℕ) (z : Bool) (e : z ≡ starts h) where
+  pub begin-large : z ≡ true → (n : ℕ) → (starts h ≡ true → START-MEMORY ≤ n) → START-MEMORY ≤ n
+  begin-large f n g = g (sym e ∙ f)
+
+  pub begin-first : z ≡ true → (b x : Board) → x ≡ started b → x ≡ begun b h
+  unfolding begun
+  begin-first f b x g = g ∙ rw (← e, f)
+
+  pub begin-as-is : z ≡ false → (b : Board) → b ≡ begun b h
+  unfolding begun
+  begin-as-is f b = rw (← e, f)
+
+pub ruleset beginning = (begin-large, begin-first, begin-as-is, needs)
+
+-- x is that board
+module _ {b : Board} {o t : List ℕ} {i j : ℕ} (p : Framed b o t i j) where
+  pub begun-sound : sound b ≡ true
+  begun-sound = p .running .ready .sound
+
+  module _ (h : starts (part i j t) ≡ true → START-MEMORY ≤ length (b .memory)) (x : Board) (k : x ≡ begun b (part i j t)) where
+    pub begun-running : Running x o t j
+    begun-running =
+        let y = begun-keeps b (part i j t) h in
+        let q = p .running in
+        rw k
+        (record {
+          ready = record { sound = y .sound (q .ready .sound); room = room-as (b .memory) _ (y .memory) (q .ready .room) };
+          good = q .good;
+        })
+
+pub begun-ran : (b x : Board) (h o : List ℕ) → x ≡ begun b h → (bs : List Block) (y : Outcome) → y ≡ runBlocks (untouched 0 x o) bs →
+    y ≡ runBlocks (untouched 0 (begun b h) o) bs
+begun-ran b x h o k bs y w = w ∙ ap (λ (z : Board). runBlocks (untouched 0 z o) bs) k
+
+pub ruleset running = (begun-sound, begun-running, begun-ran, needs)
 
 -- ---- a frame that was read
 
@@ -83,46 +120,12 @@ module _ (b : Board) (o t : List ℕ) (i j n : ℕ) (e : n ≡ admission (b .set
       outcome r m o ≡ runFrame b o (frame (part i j t) (blocksAt t j))
   frame-refused f r q m k = rw (q, k) (sym (admitted b o (part i j t) (blocksAt t j) n e ∙ rw (ne-eqb n 0 f)))
 
-  module _ (f : n ≡ 0) (z : Bool) (g : z ≡ starts (part i j t)) where
-    here : runFrame b o (frame (part i j t) (blocksAt t j)) ≡ runBlocks (untouched 0 (begun b (part i j t)) o) (blocksAt t j)
-    here = admitted b o (part i j t) (blocksAt t j) n e ∙ rw (eq-eqb n 0 f)
+  -- 0
+  pub frame-ran : n ≡ 0 → (r : Answer) (m′ o′ : List ℕ) →
+      outcome r m′ o′ ≡ runBlocks (untouched 0 (begun b (part i j t)) o) (blocksAt t j) → outcome r m′ o′ ≡ runFrame b o (frame (part i j t) (blocksAt t j))
+  frame-ran f r m′ o′ w = w ∙ sym (admitted b o (part i j t) (blocksAt t j) n e ∙ rw (eq-eqb n 0 f))
 
-    -- with a first start
-    pub frame-started : z ≡ true → (r : Answer) (m′ o′ : List ℕ) → outcome r m′ o′ ≡ runBlocks (untouched 0 (started b) o) (blocksAt t j) →
-        outcome r m′ o′ ≡ runFrame b o (frame (part i j t) (blocksAt t j))
-    unfolding begun
-    frame-started h r m′ o′ w = w ∙ sym (here ∙ rw (← g, h))
-
-    -- without one
-    pub frame-ran : z ≡ false → (r : Answer) (m′ o′ : List ℕ) → outcome r m′ o′ ≡ runBlocks (untouched 0 b o) (blocksAt t j) →
-        outcome r m′ o′ ≡ runFrame b o (frame (part i j t) (blocksAt t j))
-    unfolding begun
-    frame-ran h r m′ o′ w = w ∙ sym (here ∙ rw (← g, h))
-
-pub ruleset framing = (untouched-as, frame-refused, frame-room, frame-started, frame-ran, needs)
-
--- ---- a first start: the board with its files
-
-module _ {b : Board} {o t : List ℕ} {from : ℕ} (g : Running b o t from) (m : List ℕ) (i : m ≡ b .memory) (h : START-MEMORY ≤ length m) where
-  module _ (x : Board) (e : x ≡ started b) where
-    enough : START-MEMORY ≤ length (b .memory)
-    enough = rw i at h
-
-    pub started-running : Running x o t from
-    started-running =
-        record {
-          ready = record {
-            sound = rw e (started-sound b enough (g .ready .sound));
-            room = rw e (room-as (b .memory) (started b .memory) (started-length b enough) (g .ready .room));
-          };
-          good = g .good;
-        }
-
-    pub started-ran : (r : Answer) (m′ o′ : List ℕ) → outcome r m′ o′ ≡ runBlocks (untouched 0 x o) (blocksAt t from) →
-        outcome r m′ o′ ≡ runBlocks (untouched 0 (started b) o) (blocksAt t from)
-    started-ran r m′ o′ f = rw e at f
-
-pub ruleset starting = (started-running, started-ran, needs)
+pub ruleset framing = (untouched-as, large-enough, frame-refused, frame-ran, needs)
 
 -- ---- a board that is ready
 

@@ -1,7 +1,7 @@
 -- The board before the first block of a frame: as it was handed in, or with the files of a first start.
-use Prim.Native.Nat.{ℕ}
-use mathlib.Core.Path.{_≡_, refl, sym, _∙_}
-use mathlib.Core.Bool.{Bool, true, false, _&&_}
+use Prim.Native.Nat.{ℕ, _≤_}
+use mathlib.Core.Path.{_≡_, refl}
+use mathlib.Core.Bool.{true, false, _&&_}
 use mathlib.Core.List.{List}
 use lib.ListN.{length}
 use borrow.Author.Tests.{ltb-false}
@@ -23,11 +23,12 @@ pub record Begun (b x : Board) : Type 0 where
   pub sound : sound b ≡ true → sound x ≡ true
 
 -- where memory has room for its files
-pub begun-keeps : (b : Board) (h : List ℕ) → (starts h && length (b .memory) <? START-MEMORY) ≡ false → Begun b (begun b h)
+pub begun-keeps : (b : Board) (h : List ℕ) → (starts h ≡ true → START-MEMORY ≤ length (b .memory)) → Begun b (begun b h)
 unfolding begun started replaced
-begun-keeps b h e =
-    choice (Begun b) (starts h)
-    (λ s.
-    let l = ltb-false (length (b .memory)) START-MEMORY (rw s at e) in
-    record { settings = refl; memory = started-length b l; sound = started-sound b l })
+begun-keeps b h l =
+    choice (Begun b) (starts h) (λ s. record { settings = refl; memory = started-length b (l s); sound = started-sound b (l s) })
     (λ s. record { settings = refl; memory = refl; sound = λ g. g })
+
+-- as a run has tested it
+pub tested : (h : List ℕ) (n : ℕ) → (starts h && n <? START-MEMORY) ≡ false → starts h ≡ true → START-MEMORY ≤ n
+tested h n e s = ltb-false n START-MEMORY (rw s at e)

@@ -30,7 +30,7 @@ use Rattle.keeping.proofs.Keeping.{block-keeps}
 use Rattle.sign.specs.Run.{count, measure, Outcome, untouched, onto, runBlocks, begun, runFrame, run}
 use Rattle.sign.specs.declared.Tally.{Tally}
 use Rattle.sign.proofs.RunLaws.{run-unsound, blocks-number}
-use Rattle.sign.proofs.Beginning.{begun-keeps}
+use Rattle.sign.proofs.Beginning.{begun-keeps, tested}
 use Rattle.sign.proofs.NotSound.{sound-offset, sound-errors}
 
 -- ---- blocks
@@ -99,7 +99,7 @@ frame-steady b o f l (frame h bs) e =
     choice (Steady b o) (not (addressed (b .settings .own) (b .settings .address) h)) (λ a. untouched-steady b o 9)
     (λ a. choice (Steady b o) (starts h && length (b .memory) <? START-MEMORY) (λ c. untouched-steady b o 28)
     (λ c.
-    let k = begun-keeps b h c in
+    let k = begun-keeps b h (tested h (length (b .memory)) c) in
     record {
       own = p .own ∙ ap (λ (s : Settings). s .own) (k .settings);
       memory = p .memory ∙ k .memory;

@@ -25,7 +25,7 @@ use Rattle.keeping.proofs.Keeping.{block-keeps}
 use Rattle.sign.specs.Run.{Outcome, untouched, onto, runBlocks, begun, runFrame, run}
 use Rattle.sign.specs.Errors.{errorsBehind, errorsThrough, clearsNone}
 use Rattle.sign.specs.Counts.{blockNumbers}
-use Rattle.sign.proofs.Beginning.{begun-keeps}
+use Rattle.sign.proofs.Beginning.{begun-keeps, tested}
 use Rattle.sign.proofs.Steady.{run-untouched}
 
 -- what a block leaves in the register, by its number
@@ -75,7 +75,7 @@ frame-noted b o (frame h bs) =
     choice (Noted b (frame h bs)) (not (addressed (b .settings .own) (b .settings .address) h)) (λ a z. absurd (omega arith))
     (λ a. choice (Noted b (frame h bs)) (starts h && length (b .memory) <? START-MEMORY) (λ c z. absurd (omega arith))
     (λ c z. blocks-errors bs (untouched 0 x o)
-    ∙ ap (λ (s : Settings). errorsThrough (s .errors) bs (blockNumbers x bs)) (begun-keeps b h c .settings)))
+    ∙ ap (λ (s : Settings). errorsThrough (s .errors) bs (blockNumbers x bs)) (begun-keeps b h (tested h (length (b .memory)) c) .settings)))
 
 run-noted : (b : Board) (o f : List ℕ) → Noted b (read f) (run b o f)
 unfolding run

@@ -30,15 +30,17 @@ ghost use Prim.Native.Nat.{_+_, _<_, _≤_};
 ghost use lib.ListN.{length};
 ghost use Rattle.octets.specs.Choice.{part};
 ghost use Rattle.octets.specs.Bytes.{BLOCKS};
+ghost use Rattle.header.specs.Addressing.{starts};
 ghost use Rattle.body.specs.Body.{block};
 ghost use Rattle.body.specs.Steps.{blocksAt};
 ghost use Rattle.reading.specs.Reading.{frame, read};
 ghost use Rattle.reading.specs.Places.{isPrintable};
 ghost use Rattle.board.specs.Board.{board};
-ghost use Rattle.configuration.specs.Starting.{START-MEMORY, started};
+ghost use Rattle.board.specs.Soundness.{sound};
+ghost use Rattle.configuration.specs.Starting.{START-MEMORY};
 ghost use Rattle.effects.specs.InnerLeaving.{Ready};
 ghost use Rattle.commands.specs.Blocks.{runBlock};
-ghost use Rattle.sign.specs.Run.{nothing, count, measure, outcomeAs, outcome, untouched, onto, runBlocks, runFrame, run};
+ghost use Rattle.sign.specs.Run.{nothing, count, measure, outcomeAs, outcome, untouched, onto, runBlocks, begun, runFrame, run};
 ghost use Rattle.sign.specs.InnerRunning.{answerAs, Runnable, Fileable, Leaves, Running, Framed, admission};
 
 // The counts and the register behind a block that leaves the other settings.
@@ -247,16 +249,6 @@ fn run_blocks(s: Settings, m: &mut [u8], out: &mut [u8], t: &[u8], from: usize) 
     }
 }
 
-// The blocks of a frame that asks for a first start: the board "first gets" its files.
-fn run_started(s: Settings, m: &mut [u8], out: &mut [u8], t: &[u8], from: usize) -> Answer
-    requires { ⌜ Running (board s (now m)) (now out) (now t) from ⌝ }
-    requires { ⌜ START-MEMORY ≤ length (now m) ⌝ }
-    ensures { λ r. ⌜ outcome r (now (m .exit)) (now (out .exit)) ≡ runBlocks (untouched 0 (started (board s (now (m .entry)))) (now (out .entry))) (blocksAt (now (t .entry)) from) ⌝ }
-{
-    let begun = start(s, m);
-    run_blocks(begun, m, out, t, from)
-}
-
 // Why a frame of this header is not run: 9, and 28 "straight after 9"; 0 where it is.
 fn admission(h: &[u8], own: u8, address: u8, room: usize) -> u8
     ensures { λ r. ⌜ r ≡ admission own address (now (h .entry)) room ⌝ }
@@ -270,6 +262,35 @@ fn admission(h: &[u8], own: u8, address: u8, room: usize) -> u8
         return MEMORY_TOO_SMALL;
     }
     0
+}
+
+// The settings before the first block: of type "z" the board "first gets" its files.
+fn begin(s: Settings, m: &mut [u8], h: &[u8]) -> Settings
+    requires { ⌜ sound (board s (now m)) ≡ true ⌝ }
+    requires { ⌜ (starts (now h) ≡ true → START-MEMORY ≤ length (now m)) ⌝ }
+    ensures { λ r. ⌜ board r (now (m .exit)) ≡ begun (board s (now (m .entry))) (now (h .entry)) ⌝ }
+{
+    if starts(h) {
+        return start(s, m);
+    }
+    s
+}
+
+// The blocks of a frame, on the board that it begins with.
+fn run_begun(
+    s: Settings,
+    m: &mut [u8],
+    out: &mut [u8],
+    t: &[u8],
+    header: usize,
+    from: usize,
+) -> Answer
+    requires { ⌜ Framed (board s (now m)) (now out) (now t) header from ⌝ }
+    requires { ⌜ (starts (part header from (now t)) ≡ true → START-MEMORY ≤ length (now m)) ⌝ }
+    ensures { λ r. ⌜ outcome r (now (m .exit)) (now (out .exit)) ≡ runBlocks (untouched 0 (begun (board s (now (m .entry))) (part header from (now (t .entry)))) (now (out .entry))) (blocksAt (now (t .entry)) from) ⌝ }
+{
+    let begun = begin(s, m, &t[header..from]);
+    run_blocks(begun, m, out, t, from)
 }
 
 // A frame that was read, on a sound board: 9, 28, or its blocks.
@@ -288,10 +309,7 @@ fn run_frame(
     if number != 0 {
         return untouched(s, number);
     }
-    if starts(&t[header..from]) {
-        return run_started(s, m, out, t, from);
-    }
-    run_blocks(s, m, out, t, from)
+    run_begun(s, m, out, t, header, from)
 }
 
 // Any frame on a sound board: a printable one needs a room for the bytes that it stands for.

@@ -20,20 +20,8 @@ untouched-requires c κs = search framing
 returns : tie.Need-returns
 returns c = search framing
 
-sub-starts : tie.Need-sub-starts
-sub-starts c = search framing
-
-part-starts-start : tie.Need-part-starts-start
-part-starts-start c = search framing
-
-part-starts-end : tie.Need-part-starts-end
-part-starts-end c = search framing
-
-starts-requires : tie.Need-starts-requires
-starts-requires c κs = search framing
-
-run-started-requires : tie.Need-run-started-requires
-run-started-requires c κs = search framing
+run-begun-requires : tie.Need-run-begun-requires
+run-begun-requires c κs = search framing
 
 same-length : tie.Need-same-length
 same-length c = search framing
@@ -43,18 +31,6 @@ same-length-2 c = search framing
 
 returns-2 : tie.Need-returns-2
 returns-2 c = search framing
-
-run-blocks-requires : tie.Need-run-blocks-requires
-run-blocks-requires c κs = search framing
-
-same-length-3 : tie.Need-same-length-3
-same-length-3 c = search framing
-
-same-length-4 : tie.Need-same-length-4
-same-length-4 c = search framing
-
-returns-3 : tie.Need-returns-3
-returns-3 c = search framing
 
 pub run-frame-spec : {M : Type 1} → statement M
 run-frame-spec =
@@ -66,15 +42,7 @@ run-frame-spec =
     admission-requires
     untouched-requires
     returns
-    sub-starts
-    part-starts-start
-    part-starts-end
-    starts-requires
-    run-started-requires
+    run-begun-requires
     same-length
     same-length-2
-    returns-2
-    run-blocks-requires
-    same-length-3
-    same-length-4
-    returns-3)
+    returns-2)
