@@ -65,7 +65,7 @@ int main(void)
 {
     /* around the blocks */
     size_t one = counted("AAHELLO", 1);
-    at_most("a run of one write", one, 7);
+    at_most("a run of one write", one, 9);
     /* for a block that changes no setting: none */
     IS(counted("AAHELLO", 2), one);
     IS(counted("AAHELLO", 60), one);
