@@ -7,7 +7,7 @@ use lib.IntN.{ℤ, pos, negsuc}
 use Rattle.board.specs.Index.{entry}
 use Rattle.board.specs.declared.Settings.{Settings}
 use Rattle.sheet.specs.Sheet.{bytes, onFresh, stores, replies}
-use Rattle.cases.specs.Numbers.{Row, row, frames, writing, reforming, joining, many, E'S}
+use Rattle.cases.specs.Numbers.{Row, row, frames, writing, reforming, joining, E'S}
 use Rattle.cases.specs.Witnesses.{Witness, counts, example, Shows}
 
 -- a frame that starts a sign, and writes to one of its files

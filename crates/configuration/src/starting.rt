@@ -23,7 +23,7 @@ const FIRST: u8 = 0x41;
 const COUNT: usize = 26;
 
 // the bytes of their records
-const LIST: usize = 286;
+const START_LIST: usize = 286;
 
 // "memory below 4,186 bytes": the least in which they have room
 pub const START_MEMORY: usize = 4186;
@@ -79,7 +79,7 @@ pub fn start(s: Settings, m: &mut [u8]) -> Settings
     requires { ⌜ START-MEMORY ≤ length (now m) ⌝ }
     ensures { λ r. ⌜ board r (now (m .exit)) ≡ started (board s (now (m .entry))) ⌝ }
 {
-    let mut list = [0u8; LIST];
+    let mut list = [0u8; START_LIST];
     put_list(&mut list);
     let kept = lay(m, &list, COUNT);
     let places = kept.places;

@@ -36,21 +36,40 @@ first = render 1 header hello
 pub second : List ℕ
 second = render 3 header standard-time
 
+-- the first of them for a first start, "z00"
+pub starting : List ℕ
+starting = render 1 (0x7A ∷ 0x30 ∷ 0x30 ∷ []) hello
+
 -- what follows by computing
 record Computed : Type 0 where
   first-bytes : all isByte first ≡ true
   second-bytes : all isByte second ≡ true
+  starting-bytes : all isByte starting ≡ true
   reforms : reform 3 first (zeros 60) .answer .number ≡ 0
+  reforms-start : reform 3 starting (zeros 60) .answer .number ≡ 0
   joins : join 2 first second (zeros 40) .answer .number ≡ 0
   joins-on : join 2 (resultOf (join 2 first second (zeros 40))) first (zeros 60) .answer .number ≡ 0
 
 computed : Computed
-unfolding first second header hello standard-time writes
-computed = record { first-bytes = refl; second-bytes = refl; reforms = refl; joins = refl; joins-on = refl }
+unfolding first second starting header hello standard-time writes
+computed =
+    record {
+      first-bytes = refl;
+      second-bytes = refl;
+      starting-bytes = refl;
+      reforms = refl;
+      reforms-start = refl;
+      joins = refl;
+      joins-on = refl;
+    }
 
 -- a re-forming that succeeds
 pub reformed : Reformed 3 first (reform 3 first (zeros 60))
 reformed = reform-reads 3 first (zeros 60) (computed .first-bytes) (computed .reforms)
+
+-- so does one of type "z"
+pub started : Reformed 3 starting (reform 3 starting (zeros 60))
+started = reform-reads 3 starting (zeros 60) (computed .starting-bytes) (computed .reforms-start)
 
 -- a joining that succeeds, by what it asks
 pub able : Joinable 2 first second (zeros 40)

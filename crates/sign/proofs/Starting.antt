@@ -1,7 +1,7 @@
 -- A first start, over what a run promises: the blocks run on the board with its files, which stay whatever becomes of the blocks, unless an
 -- E "$" is done; 28 changes nothing.
 use Prim.Native.Nat.{ℕ, _<_, _≤_}
-use mathlib.Core.Path.{_≡_, refl, sym, ap, _∙_, subst}
+use mathlib.Core.Path.{_≡_, refl, sym, _∙_, subst}
 use mathlib.Core.Bool.{true, false, not, _&&_}
 use mathlib.Core.List.{List, [], _∷_}
 use native.Mathlib.Omega.{arith}
