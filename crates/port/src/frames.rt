@@ -31,7 +31,7 @@ pub extern "C" fn pagozkin_reform(form: u8, frame: &[u8], out: &mut [u8]) -> Wri
     reform(form, frame, out)
 }
 
-// Joins two frames: 0, 15, 3 to 8 and 17 of either, 12, 13, 18 or 14.
+// Joins two frames: 0, 15, 3 to 8 and 17 of either, 12, 19, 13, 18 or 14.
 #[no_mangle]
 pub extern "C" fn pagozkin_join(form: u8, first: &[u8], second: &[u8], out: &mut [u8]) -> Written
     ensures { λ r. ⌜ output r (now (out .exit)) ≡ join form (now (first .entry)) (now (second .entry)) (now (out .entry)) ⌝ }

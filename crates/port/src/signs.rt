@@ -32,7 +32,7 @@ pub extern "C" fn pagozkin_is_sound(settings: Settings, memory: &[u8]) -> u8
     truth(sound(settings, memory))
 }
 
-// Runs a frame on a board: 0, or 1 to 9.
+// Runs a frame on a board: 0, 1 to 9 or 28.
 #[no_mangle]
 pub extern "C" fn pagozkin_run(
     settings: Settings,
