@@ -1,4 +1,6 @@
 // A frame's body: blocks and their sums. The definitions are in specs/.
+#![tactic(auto)]
+
 pub mod reader;
 pub mod steps;
 pub mod sum;

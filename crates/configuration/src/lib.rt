@@ -1,4 +1,6 @@
 // The list that configures memory: its records, the files that they make, and a board with these. The definitions are in specs/.
+#![tactic(auto)]
+
 mod capitals;
 mod configuration;
 mod labels;

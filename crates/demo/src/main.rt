@@ -1,4 +1,6 @@
 // The demo of document 01: reads one frame from standard input, runs it on a fresh 512-byte board of type "C" and prints five lines.
+#![tactic(auto)]
+
 use libc::{STDIN_FILENO, STDOUT_FILENO};
 use sign::Answer;
 use sign::fresh::fresh;

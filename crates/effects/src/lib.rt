@@ -1,4 +1,6 @@
 // What a command leaves: a number, the board after it, and its reply. The definitions are in specs/.
+#![tactic(auto)]
+
 use board::Settings;
 
 mod effects;

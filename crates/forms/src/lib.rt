@@ -1,4 +1,6 @@
 // "Three forms we write", byte by byte and block by block. The definitions are in specs/.
+#![tactic(auto)]
+
 mod forms;
 pub mod lengths;
 

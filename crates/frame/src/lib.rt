@@ -1,5 +1,6 @@
 // The frame layer: bytes to header and commands, and back. What stands here is what the layer promises;
 // the sign layer and the gateway use these calls and no others of header, body, reading, forms and writing.
+#![tactic(auto)]
 
 // Reading a frame, block by block.
 pub use body::BlockStep;

@@ -1,4 +1,6 @@
 // Pixels in a store, two for each byte, the first in the upper half. The definitions are in specs/.
+#![tactic(auto)]
+
 mod pixels;
 mod store;
 

@@ -1,5 +1,7 @@
 // The library as the boards' firmware calls it: each public call under the C calling convention, its statement that of the
 // call it wraps. include/pagozkin.h declares the same for C. A slice is a pointer and then a length.
+#![tactic(auto)]
+
 pub mod blocks;
 pub mod dates;
 pub mod frames;

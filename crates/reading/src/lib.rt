@@ -1,4 +1,6 @@
 // How a frame reads. The definitions are in specs/.
+#![tactic(auto)]
+
 mod lead;
 pub mod reading;
 mod translation;

@@ -1,4 +1,6 @@
 // Request 6: renewal dates, weekdays, and the days between two dates. The definitions are in specs/. C lays the structs out alike.
+#![tactic(auto)]
+
 mod counting;
 pub mod days;
 pub mod numbers;

@@ -1,6 +1,7 @@
 // Replays a stream of cases from standard input through the public calls, a line of output for each.
 // A case is a call byte and its arguments: a number is one byte, or two with the most significant first (a signed one in two's
 // complement), a string its length in two bytes and its bytes.
+#![tactic(auto)]
 ghost use Rattle.std.specs.Prelude.{◌+◌, ◌<◌, ◌≤◌, length};
 ghost use Rattle.io.specs.Counts.{IsPrefixLen};
 

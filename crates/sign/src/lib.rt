@@ -1,4 +1,6 @@
 // Fresh boards, whole runs and the port driver's call. The definitions are in specs/. C lays the four structs out alike.
+#![tactic(auto)]
+
 use board::Settings;
 
 pub mod errors;

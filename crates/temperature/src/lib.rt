@@ -1,5 +1,7 @@
 // Request 9: the temperature offset of a sign, and readings corrected by it. The definitions are in specs/. C lays the struct out
 // alike.
+#![tactic(auto)]
+
 pub mod correcting;
 pub mod numbers;
 pub mod offset;

@@ -1,5 +1,6 @@
 // Twelve permit notices, one summed frame each, joined two at a time into one frame in each of the three forms and run on a board,
 // beside the same twelve run one by one on another: what both boards hold is printed and compared.
+#![tactic(auto)]
 ghost use Rattle.std.specs.Prelude.{◌+◌, ◌≤◌, length};
 
 use board::Settings;

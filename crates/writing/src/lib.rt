@@ -1,4 +1,6 @@
 // The calls that write: a one-command frame, a frame in another form, two frames joined. The definitions are in specs/.
+#![tactic(auto)]
+
 mod blocks;
 pub mod joining;
 pub mod numbers;

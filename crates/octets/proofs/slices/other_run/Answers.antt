@@ -1,0 +1,27 @@
+use Prim.Native.Nat.{◌-◌}
+use Rattle.octets.proofs.SlicesLaws.{running}
+use Rattle.octets.proofs.slices.other_run.Goals as goal
+
+pub other_strides-k-requires : goal.other_strides-k-requires
+other_strides-k-requires c = search running
+
+pub loop-k-init : goal.loop-k-init
+loop-k-init c = search running
+
+pub bounds-s-k : goal.bounds-s-k
+bounds-s-k c = search running
+
+pub returns-then-s-k : goal.returns-then-s-k
+returns-then-s-k c = search running
+
+pub overflow_add-k : goal.overflow_add-k
+overflow_add-k c = search running
+
+pub loop-k-smaller : goal.loop-k-smaller
+loop-k-smaller c = search running
+
+pub loop-k-preserved : goal.loop-k-preserved
+loop-k-preserved c = search running
+
+pub returns : goal.returns
+returns c = search running

@@ -1,0 +1,11 @@
+use Prim.Native.Nat.{◌-◌}
+use lib.ListN.{length}
+use Rattle.octets.specs.InnerEqual.{differs}
+use Rattle.octets.proofs.SlicesLaws.{Running}
+use Rattle.octets.proofs.slices.other_run.Given as goal
+
+abbrev pub invariant-loop-k : goal.invariant-loop-k
+invariant-loop-k l = Running (differs l.b) l.s l.i l.k
+
+abbrev pub decreases-loop-k : goal.decreases-loop-k
+decreases-loop-k l = length l.s - l.k
