@@ -10,7 +10,7 @@ pub mod walk;
 
 // What stands at a place of a frame: no block; a block with another one behind it; or the last block.
 // Its command byte, where its data start and end, whether its sum is right, and where the next block starts.
-#[derive(Drop)]
+#[derive(Clone, Copy)]
 pub enum BlockStep {
     Stray,
     More {

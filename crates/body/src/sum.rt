@@ -27,7 +27,7 @@ pub fn opening(command: u8) -> u16
 }
 
 // Bytes in a row: whether each one is 05H to FFH, and a sum with each one added to it.
-#[derive(Drop)]
+#[derive(Clone, Copy)]
 pub struct Stretch {
     pub plain: bool,
     pub sum: u16,

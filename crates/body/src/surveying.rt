@@ -17,7 +17,7 @@ pub const READ_NOT_LAST: u8 = 8;
 
 // What is known of the blocks: 0 or 8 (7 of a bad body, and nothing else then), whether one of them is a read, whether no sum is wrong, how
 // many they are, and how many bytes of data they have.
-#[derive(Drop)]
+#[derive(Clone, Copy)]
 pub struct Survey {
     pub number: u8,
     pub read: bool,

@@ -8,7 +8,7 @@ use octets::bytes::ETX;
 use octets::slices::{byte_at, plain_run};
 
 // A block's command byte, where its data end, the checksum of both, and where what stands behind it starts: the next block, if there is one.
-#[derive(Drop)]
+#[derive(Clone, Copy)]
 pub struct Taken {
     pub command: u8,
     pub to: usize,

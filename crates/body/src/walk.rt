@@ -11,7 +11,7 @@ use octets::bytes::PLAIN;
 const STRIDE: usize = 16;
 
 // As far as the data were walked: the place, and a sum with each of their bytes up to it.
-#[derive(Drop)]
+#[derive(Clone, Copy)]
 pub struct Walked {
     pub to: usize,
     pub sum: u16,

@@ -14,7 +14,7 @@ pub use crate::configuration::configure;
 const LIST: usize = 704;
 
 // What the settings keep of files: the unused amount, and the index.
-#[derive(Drop)]
+#[derive(Clone, Copy)]
 pub struct Kept {
     pub unused: u16,
     pub places: [u16; 95],

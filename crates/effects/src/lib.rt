@@ -11,14 +11,14 @@ pub mod reply;
 pub use crate::effects::quiet;
 
 // What a command that gives no reply answers, where it may change the settings: its number, 0 or 20 to 27, and the settings after it.
-#[derive(Drop)]
+#[derive(Clone, Copy)]
 pub struct Changed {
     pub number: u8,
     pub settings: Settings,
 }
 
 // What one answers that may reply besides: the length of its reply, 0 where there is none.
-#[derive(Drop)]
+#[derive(Clone, Copy)]
 pub struct Done {
     pub number: u8,
     pub settings: Settings,

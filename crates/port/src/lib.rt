@@ -12,7 +12,7 @@ mod truth;
 // What reading a frame tells C: a number; whether the frame is printable (1) or standard (0); how many bytes it stands for;
 // where its header and where its first block start among them.
 #[repr(C)]
-#[derive(Drop)]
+#[derive(Clone, Copy)]
 pub struct Places {
     pub number: u8,
     pub printable: u8,
@@ -24,7 +24,7 @@ pub struct Places {
 // What a step over the blocks tells C: no block (0), a block with another one behind it (1) or the last block (2);
 // its command byte; whether its sum is right (1) or wrong (0); where its data start and end; and where the reader is left.
 #[repr(C)]
-#[derive(Drop)]
+#[derive(Clone, Copy)]
 pub struct BlockPlaces {
     pub kind: u8,
     pub command: u8,

@@ -8,7 +8,7 @@ use octets::bytes::{NUL, SOH};
 use octets::slices::{byte_at, equal_run};
 
 // Where the header starts; or a wrong lead.
-#[derive(Drop)]
+#[derive(Clone, Copy)]
 pub enum LeadEnd {
     At(usize),
     Wrong,

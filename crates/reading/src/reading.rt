@@ -28,14 +28,14 @@ pub const BAD_PRINTABLE: u8 = 5;
 pub const BAD_HEADER: u8 = 6;
 
 // Where the body starts, and what is known of its blocks; or a number from 6 to 8.
-#[derive(Drop)]
+#[derive(Clone, Copy)]
 enum BodyPlace {
     At(usize, Survey),
     Refused(u8),
 }
 
 // Where header and body start, and what is known of the blocks; or a number from 3 to 8.
-#[derive(Drop)]
+#[derive(Clone, Copy)]
 pub enum Parts {
     At {
         header: usize,
@@ -46,7 +46,7 @@ pub enum Parts {
 }
 
 // How many bytes a printable frame stands for; or 3 or 5.
-#[derive(Drop)]
+#[derive(Clone, Copy)]
 pub enum Translated {
     Bytes(usize),
     Refused(u8),

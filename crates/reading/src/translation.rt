@@ -16,14 +16,14 @@ use octets::hex::{Two, carried_two_at, is_between, is_carried};
 use octets::slices::{byte_at, other_run, put_at};
 
 // One byte of a printable frame: the byte that it stands for, and where the next one starts; or a fault.
-#[derive(Drop)]
+#[derive(Clone, Copy)]
 pub enum Char {
     Stands { byte: u8, next: usize },
     Faulty,
 }
 
 // How many bytes a printable frame stands for; or that it has a fault.
-#[derive(Drop)]
+#[derive(Clone, Copy)]
 pub enum Counted {
     Bytes(usize),
     Faulty,

@@ -9,7 +9,7 @@ mod table;
 
 // A date: its year in full, 2000 to 2099 where it exists; months and days count from 1.
 #[repr(C)]
-#[derive(Drop)]
+#[derive(Clone, Copy)]
 pub struct Date {
     pub year: u16,
     pub month: u8,
@@ -18,7 +18,7 @@ pub struct Date {
 
 // What a renewal answers.
 #[repr(C)]
-#[derive(Drop)]
+#[derive(Clone, Copy)]
 pub struct Renewed {
     pub number: u8,
     pub date: Date,
@@ -26,7 +26,7 @@ pub struct Renewed {
 
 // What is answered of a date's weekday: 1 Sunday to 7 Saturday.
 #[repr(C)]
-#[derive(Drop)]
+#[derive(Clone, Copy)]
 pub struct DayOfWeek {
     pub number: u8,
     pub weekday: u8,
@@ -34,7 +34,7 @@ pub struct DayOfWeek {
 
 // What is answered of two dates: the days from the first to the second, negative when the second is earlier.
 #[repr(C)]
-#[derive(Drop)]
+#[derive(Clone, Copy)]
 pub struct DaysApart {
     pub number: u8,
     pub days: i32,

@@ -13,13 +13,13 @@ use sign::{Answer, Tally};
 use signed::plain::{from_bits, from_byte, size, widen, widen_byte};
 
 // What reading an argument finds: how many bytes it has, and whether the input held them all.
-#[derive(Drop)]
+#[derive(Clone, Copy)]
 struct Got {
     whole: bool,
     count: usize,
 }
 
-#[derive(Drop)]
+#[derive(Clone, Copy)]
 enum Byte {
     Is(u8),
     End,

@@ -10,7 +10,7 @@ pub mod run;
 
 // Blocks done, blocks refused, the place (from 1) and number of the first refused, and the reply's length.
 #[repr(C)]
-#[derive(Drop)]
+#[derive(Clone, Copy)]
 pub struct Tally {
     pub done: u8,
     pub refused: u8,
@@ -21,7 +21,7 @@ pub struct Tally {
 
 // What a run answers.
 #[repr(C)]
-#[derive(Drop)]
+#[derive(Clone, Copy)]
 pub struct Answer {
     pub number: u8,
     pub tally: Tally,
@@ -30,7 +30,7 @@ pub struct Answer {
 
 // What the making of a fresh board answers.
 #[repr(C)]
-#[derive(Drop)]
+#[derive(Clone, Copy)]
 pub struct Made {
     pub number: u8,
     pub settings: Settings,
@@ -38,7 +38,7 @@ pub struct Made {
 
 // What the port driver's call answers.
 #[repr(C)]
-#[derive(Drop)]
+#[derive(Clone, Copy)]
 pub struct Driven {
     pub number: u8,
     pub settings: Settings,

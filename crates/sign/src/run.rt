@@ -27,7 +27,7 @@ use frame::{BlockStep, Read, addressed, is_printable, read, read_bare, starts, s
 use octets::bytes::BLOCKS;
 
 // The counts and the register behind a block that leaves the other settings.
-#[derive(Drop)]
+#[derive(Clone, Copy)]
 pub struct Noted {
     pub tally: Tally,
     pub errors: u8,

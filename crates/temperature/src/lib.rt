@@ -8,7 +8,7 @@ pub mod offset;
 
 // What is answered of a reading: its sum with the offset.
 #[repr(C)]
-#[derive(Drop)]
+#[derive(Clone, Copy)]
 pub struct Corrected {
     pub number: u8,
     pub sum: i16,

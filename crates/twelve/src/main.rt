@@ -18,7 +18,7 @@ const SIZE: usize = 32;
 const NOTICES: u8 = 12;
 
 // The counts of the runs so far, and the settings that the last one left.
-#[derive(Drop)]
+#[derive(Clone, Copy)]
 struct Sum {
     number: u64,
     done: u64,
@@ -148,7 +148,7 @@ fn join_parts(form: u8, a: &[u8], n: usize, b: &[u8], m: usize, out: &mut [u8]) 
 }
 
 // What a joining answered: its number, and the length of what stands in the buffer.
-#[derive(Drop)]
+#[derive(Clone, Copy)]
 struct Joined {
     number: u8,
     length: usize,

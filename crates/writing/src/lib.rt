@@ -12,7 +12,7 @@ pub use crate::writing::write;
 
 // What writing, re-forming and joining answer. C lays it out alike.
 #[repr(C)]
-#[derive(Drop)]
+#[derive(Clone, Copy)]
 pub struct Written {
     pub number: u8,
     pub length: usize,
