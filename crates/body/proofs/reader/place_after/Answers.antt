@@ -1,5 +1,4 @@
--- `reader::place_after` meets its contract: each arm of the match says which case of `place_behind` holds.
--- Assumes nothing.
+-- Each arm of the match says which case of `place_behind` holds.
 use Rattle.std.proofs.Common.{rules}
 use Rattle.body.specs.Readers.{place_behind}
 use Rattle.body.proofs.reader.place_after.Goals as goal
@@ -10,7 +9,7 @@ returns-in-Stray c = search rules
 
 pub returns-in-More : goal.returns-in-More
 unfolding place_behind
-returns-in-More c = simp c.before.b.given.1
+returns-in-More c = search rules
 
 pub returns-in-Last : goal.returns-in-Last
 unfolding place_behind
