@@ -1,0 +1,29 @@
+use Rattle.writing.proofs.JoiningLaws.{seconds}
+use Rattle.writing.proofs.joining.join_parts.Goals as goal
+
+pub enum_known-parts : goal.enum_known-parts
+enum_known-parts c = search seconds
+
+pub unwritten-requires : goal.unwritten-requires
+unwritten-requires c = search seconds
+
+pub enum_known-parts-in-At-1 : goal.enum_known-parts-in-At-1
+enum_known-parts-in-At-1 c = search seconds
+
+pub unwritten-requires-then-not-other : goal.unwritten-requires-then-not-other
+unwritten-requires-then-not-other c = search seconds
+
+pub returns-then-not-other : goal.returns-then-not-other
+returns-then-not-other c = search seconds
+
+pub join_right-requires : goal.join_right-requires
+join_right-requires c = search seconds
+
+pub returns-in-Refused : goal.returns-in-Refused
+returns-in-Refused c = search seconds
+
+pub shape_of-out : goal.shape_of-out
+shape_of-out c = search seconds
+
+pub returns-else-not-other : goal.returns-else-not-other
+returns-else-not-other c = search seconds
