@@ -14,7 +14,7 @@ use Rattle.octets.proofs.Tests.{choice, split}
 use Rattle.octets.proofs.Lists.{all_head, all_more, front-stop, behind-stop}
 use Rattle.header.specs.Header.{is_header}
 use Rattle.header.proofs.Texts.{is_text, text-low, header-text, header-some}
-use Rattle.body.specs.Body.{Block, block, body, blocks, read_not_last, all_right}
+use Rattle.body.specs.Body.{Block, block, body, blocks, is_read, read_not_last, all_right}
 use Rattle.body.proofs.Plain.{righted}
 use Rattle.reading.specs.Lead.{led, is_soh, nul_lead, soh_lead, lead_of}
 use Rattle.reading.specs.Reading.{frame, not_stx, read_body, read_header, read_led, read_translated, read_printable, read_standard, read}
@@ -80,7 +80,7 @@ header-first (x ∷ h) l e = all_head is_text x h (header-text (x ∷ h) e)
 pub reads-righted : (t : Bool) (bs : List Block) → read_not_last t (map righted bs) ≡ read_not_last t bs
 unfolding read_not_last
 reads-righted t [] = refl
-reads-righted t (b ∷ bs) = ap (λ r. t || r) (reads-righted _ bs)
+reads-righted t (b ∷ bs) = ap (λ r. t || r) (reads-righted (is_read b.command) bs)
 
 -- blocks with right sums are what they read as
 pub righted-right : (bs : List Block) → all_right bs ≡ true → map righted bs ≡ bs
