@@ -5,4 +5,4 @@ pub fault_noted-requires : goal.fault_noted-requires
 fault_noted-requires c = search recording
 
 pub returns : goal.returns
-returns c = (search recording, search recording)
+returns c = record { value = search recording; places_len = search recording }
