@@ -1,72 +1,90 @@
 // The demo of document 01: reads one frame from standard input, runs it on a fresh 512-byte board of type "C" and prints five lines.
 #![tactic(auto)]
 
-use libc::{STDIN_FILENO, STDOUT_FILENO};
+ghost use Rattle.std.specs.Prelude.{◌≤◌, length, IfOk};
+
 use sign::Answer;
 use sign::fresh::fresh;
 use sign::run::run;
+use std::io;
+use std::io::Read;
 
 // where the reply to F "#" has the unused memory, and how many digits
 const UNUSED: usize = 32;
 
 const DIGITS: usize = 4;
 
-fn text(s: &[u8]) {
-    io::write_all(STDOUT_FILENO, s);
+fn text(rt: &impl Print, s: &[u8]) -> io::Result<()> {
+    rt.write_all(s)
 }
 
-fn number(n: u8) {
-    io::print_decimal(STDOUT_FILENO, n as u64);
+fn number(rt: &impl Print, n: u8) -> io::Result<()> {
+    print!(rt; "{n}")
 }
 
-fn line(name: &[u8], n: u8) {
-    text(name);
-    number(n);
-    text(b"\n");
+fn line(rt: &impl Print, name: &[u8], n: u8) -> io::Result<()> {
+    text(rt, name)?;
+    number(rt, n)?;
+    text(rt, b"\n")
 }
 
 // Frame number; blocks done; blocks refused; place and number of the first refused.
-fn print_answer(r: Answer) {
+fn print_answer(rt: &impl Print, r: Answer) -> io::Result<()> {
     let tally = r.tally;
-    line(b"result ", r.number);
-    line(b"done ", tally.done);
-    line(b"refused ", tally.refused);
-    text(b"first ");
-    number(tally.place);
-    text(b" ");
-    number(tally.reason);
-    text(b"\n");
+    line(rt, b"result ", r.number)?;
+    line(rt, b"done ", tally.done)?;
+    line(rt, b"refused ", tally.refused)?;
+    text(rt, b"first ")?;
+    number(rt, tally.place)?;
+    text(rt, b" ")?;
+    number(rt, tally.reason)?;
+    text(rt, b"\n")
 }
 
 // "unused memory in hex"
-fn print_unused(reply: &[u8; 576]) {
+fn print_unused(rt: &impl Print, reply: &[u8; 576]) -> io::Result<()> {
     let digits = [
         reply[UNUSED],
         reply[UNUSED + 1],
         reply[UNUSED + 2],
         reply[UNUSED + DIGITS - 1],
     ];
-    text(b"unused ");
-    text(&digits);
-    text(b"\n");
+    text(rt, b"unused ")?;
+    text(rt, &digits)?;
+    text(rt, b"\n")
 }
 
-fn show(frame: &[u8]) {
+fn show(rt: &impl Print, frame: &[u8]) -> io::Result<()> {
     let mut memory = [0u8; 512];
     let mut reply = [0u8; 576];
     let made = fresh(b'C', &mut memory);
     let settings = made.settings;
     let first = run(settings, &mut memory, &mut reply, frame);
-    print_answer(first);
+    print_answer(rt, first)?;
     let next = first.settings;
-    let pool = run(next, &mut memory, &mut reply, b"_01Z00_02F#_04");
-    print_unused(&reply);
+    let _pool = run(next, &mut memory, &mut reply, b"_01Z00_02F#_04");
+    print_unused(rt, &reply)
+}
+
+// How many bytes of the input stand at the start of buf: it is full, or the input has ended.
+fn read_full<R: Read>(input: &mut R, buf: &mut [u8]) -> io::Result<usize>
+    ensures { IfOk result (λ n. n ≤ length buf.new) }
+{
+    let mut at = 0;
+    for _ in 0..u64::MAX {
+        let n = input.read(&mut buf[at..])?;
+        if n == 0 {
+            break;
+        }
+        at += n;
+    }
+    Ok(at)
 }
 
 // One byte more than the longest frame: an over-long input stays over-long.
-fn main() {
+fn main(rt: HostRuntime) -> io::Result<()> {
     let mut frame = [0u8; 24577];
-    let got = io::read_full(STDIN_FILENO, &mut frame);
-    let n = io::count(got as isize, &frame);
-    show(&frame[..n]);
+    let mut input = rt.reader();
+    let n = read_full(&mut input, &mut frame)?;
+    show(&rt, &frame[..n])
 }

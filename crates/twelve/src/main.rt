@@ -1,12 +1,13 @@
 // Twelve permit notices, one summed frame each, joined two at a time into one frame in each of the three forms and run on a board,
 // beside the same twelve run one by one on another: what both boards hold is printed and compared.
 #![tactic(auto)]
+
 ghost use Rattle.std.specs.Prelude.{◌+◌, ◌≤◌, length};
 
 use board::Settings;
-use libc::STDOUT_FILENO;
 use octets::slices::same;
 use sign::Answer;
+use std::io;
 
 // each notice's file takes an 11-byte record and 32 bytes of content
 const PITCH: usize = 43;
@@ -26,28 +27,28 @@ struct Sum {
     settings: Settings,
 }
 
-fn text(s: &[u8]) {
-    io::write_all(STDOUT_FILENO, s);
+fn text(rt: &impl Print, s: &[u8]) -> io::Result<()> {
+    rt.write_all(s)
 }
 
-fn number(n: u64) {
-    io::print_decimal(STDOUT_FILENO, n);
+fn number(rt: &impl Print, n: u64) -> io::Result<()> {
+    print!(rt; "{n}")
 }
 
-fn line(name: &[u8], n: u64) {
-    text(name);
-    number(n);
-    text(b"\n");
+fn line(rt: &impl Print, name: &[u8], n: u64) -> io::Result<()> {
+    text(rt, name)?;
+    number(rt, n)?;
+    text(rt, b"\n")
 }
 
-fn counts(name: &[u8], s: Sum) {
-    text(name);
-    number(s.number);
-    text(b" ");
-    number(s.done);
-    text(b" ");
-    number(s.refused);
-    text(b"\n");
+fn counts(rt: &impl Print, name: &[u8], s: Sum) -> io::Result<()> {
+    text(rt, name)?;
+    number(rt, s.number)?;
+    text(rt, b" ")?;
+    number(rt, s.done)?;
+    text(rt, b" ")?;
+    number(rt, s.refused)?;
+    text(rt, b"\n")
 }
 
 // A length that a call answered, small enough to count with.
@@ -115,7 +116,7 @@ fn none(settings: Settings) -> Sum {
 fn run_part(s: Sum, memory: &mut [u8], reply: &mut [u8], bytes: &[u8], n: usize) -> Sum
     requires { n ≤ 65536 }
 {
-    let k = io::count(n as isize, bytes);
+    let k = n.min(bytes.len());
     let settings = s.settings;
     let r = sign::run::run(settings, &mut *memory, &mut *reply, &bytes[..k]);
     add(s, r)
@@ -142,8 +143,8 @@ fn separate(memory: &mut [u8], reply: &mut [u8]) -> Sum {
 fn join_parts(form: u8, a: &[u8], n: usize, b: &[u8], m: usize, out: &mut [u8]) -> frame::Written
     requires { (n ≤ 65536) × (m ≤ 65536) }
 {
-    let i = io::count(n as isize, a);
-    let j = io::count(m as isize, b);
+    let i = n.min(a.len());
+    let j = m.min(b.len());
     frame::join(form, &a[..i], &b[..j], out)
 }
 
@@ -189,12 +190,12 @@ fn pack(form: u8, a: &mut [u8; 4096]) -> Joined
 }
 
 // `same` or another word.
-fn told(name: &[u8], equal: bool, otherwise: &[u8]) {
-    text(name);
+fn told(rt: &impl Print, name: &[u8], equal: bool, otherwise: &[u8]) -> io::Result<()> {
+    text(rt, name)?;
     if equal {
-        text(b"same\n");
+        text(rt, b"same\n")
     } else {
-        text(otherwise);
+        text(rt, otherwise)
     }
 }
 
@@ -226,46 +227,46 @@ fn same_settings(a: Settings, b: Settings) -> bool {
 }
 
 // A content without its zeros.
-fn print_content(content: &[u8]) {
+fn print_content(rt: &impl Print, content: &[u8]) -> io::Result<()> {
     let n = octets::slices::plain_run(content, 0);
-    let k = io::count((n % 65536) as isize, content);
-    text(&content[..k]);
+    let k = (n % 65536).min(content.len());
+    text(rt, &content[..k])
 }
 
 // The file whose record stands at a place: its label and its content.
-fn print_file(memory: &[u8], at: usize)
+fn print_file(rt: &impl Print, memory: &[u8], at: usize) -> io::Result<()>
     requires { at + 43 ≤ length memory.now }
 {
     let label = [memory[at]];
     let from = at + RECORD;
     let to = from + SIZE;
-    text(&label);
-    text(b" ");
-    print_content(&memory[from..to]);
-    text(b"\n");
+    text(rt, &label)?;
+    text(rt, b" ")?;
+    print_content(rt, &memory[from..to])?;
+    text(rt, b"\n")
 }
 
 // The twelve files.
-fn print_files(memory: &[u8; 1024]) {
+fn print_files(rt: &impl Print, memory: &[u8; 1024]) -> io::Result<()> {
     for k in 0..12usize {
-        print_file(memory, k * PITCH);
+        print_file(rt, memory, k * PITCH)?;
     }
+    Ok(())
 }
 
 // One form: the twelve packed and run, the twelve run one by one, and what both left.
-fn show(form: u8) {
+fn show(rt: &impl Print, form: u8) -> io::Result<()> {
     let mut frame = [0u8; 4096];
-    line(b"form ", form as u64);
+    line(rt, b"form ", form as u64)?;
     let joined = pack(form, &mut frame);
     if joined.number != 0 {
-        line(b"join ", joined.number as u64);
-        return;
+        return line(rt, b"join ", joined.number as u64);
     }
-    line(b"length ", joined.length as u64);
-    compare(&frame, joined.length);
+    line(rt, b"length ", joined.length as u64)?;
+    compare(rt, &frame, joined.length)
 }
 
-fn compare(frame: &[u8; 4096], n: usize)
+fn compare(rt: &impl Print, frame: &[u8; 4096], n: usize) -> io::Result<()>
     requires { n ≤ 65536 }
 {
     let mut memory = [0u8; 1024];
@@ -275,18 +276,18 @@ fn compare(frame: &[u8; 4096], n: usize)
     let mut other = [0u8; 1024];
     let mut answer = [0u8; 1088];
     let apart = separate(&mut other, &mut answer);
-    counts(b"packed ", packed);
-    counts(b"separate ", apart);
+    counts(rt, b"packed ", packed)?;
+    counts(rt, b"separate ", apart)?;
     let one = packed.settings;
     let two = apart.settings;
-    told(b"settings ", same_settings(one, two), b"differ\n");
-    told(b"memory ", same(&memory, &other), b"differs\n");
-    told(b"reply ", same(&reply, &answer), b"differs\n");
-    print_files(&memory);
+    told(rt, b"settings ", same_settings(one, two), b"differ\n")?;
+    told(rt, b"memory ", same(&memory, &other), b"differs\n")?;
+    told(rt, b"reply ", same(&reply, &answer), b"differs\n")?;
+    print_files(rt, &memory)
 }
 
-fn main() {
-    show(1);
-    show(2);
-    show(3);
+fn main(rt: HostRuntime) -> io::Result<()> {
+    show(&rt, 1)?;
+    show(&rt, 2)?;
+    show(&rt, 3)
 }
