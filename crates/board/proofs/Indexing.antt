@@ -8,7 +8,8 @@ use native.Mathlib.Omega.{arith}
 use borrow.Author.Tests.{eq-eqb, ne_eqb, eqb-true, eqb-false, leb-true, not-true}
 use lib.ListN.{length, drop, set, length-set, get_or-replicate, drop_of_length-le}
 use lib.Seq.{get_or-set_same, get_or-set_other, ext_get_or}
-use Rattle.octets.specs.Choice.{if◌then◌else◌, ◌is◌, ◌≤?◌, between, ◌!◌, among}
+use Rattle.std.specs.Prelude.{if◌then◌else◌}
+use Rattle.octets.specs.Choice.{◌is◌, ◌≤?◌, between, ◌!◌, among}
 use Rattle.octets.specs.InnerCounts.{count}
 use Rattle.octets.proofs.Spots.{drop-on}
 use Rattle.octets.proofs.Tests.{by-test, compare, never, split, or-in, or-out-left, or-out-right, and_both, suc-less-one}

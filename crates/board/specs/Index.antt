@@ -1,6 +1,6 @@
 -- Request 7: "Keep, for each label 20H to 7EH, where its record begins or that there is none, and answer from that."
-use Rattle.std.specs.Prelude.{ℕ, zero, suc, ◌+◌, ◌-◌, Bool, true, ◌&&◌, ◌||◌, List, [], ◌∷◌, length, drop, set, replicate}
-use Rattle.octets.specs.Choice.{if◌then◌else◌, ◌is◌, between, ◌!◌, among}
+use Rattle.std.specs.Prelude.{ℕ, zero, suc, ◌+◌, ◌-◌, Bool, true, ◌&&◌, ◌||◌, List, [], ◌∷◌, length, drop, set, replicate, if◌then◌else◌}
+use Rattle.octets.specs.Choice.{◌is◌, between, ◌!◌, among}
 use Rattle.board.specs.Files.{File, taken, files_of, labels}
 use Rattle.board.specs.declared.Found.{Found}
 use Rattle.board.specs.declared.Found.TheVariants.{At, Nothing}

@@ -1,6 +1,6 @@
 -- For contracts of inner functions only: files, with the unused amount and the index that the settings keep of them.
-use Rattle.std.specs.Prelude.{ℕ, ◌+◌, ◌≤◌, ◌≡◌, Bool, ◌&&◌, List, length}
-use Rattle.octets.specs.Choice.{if◌then◌else◌, ◌is◌, ◌isn't◌}
+use Rattle.std.specs.Prelude.{ℕ, ◌+◌, ◌≤◌, ◌≡◌, Bool, ◌&&◌, List, length, if◌then◌else◌}
+use Rattle.octets.specs.Choice.{◌is◌, ◌isn't◌}
 use Rattle.octets.specs.InnerCounts.{count}
 use Rattle.octets.specs.declared.hex.Four.{Four}
 use Rattle.octets.specs.declared.hex.Four.TheVariants.{Value, Bad}

@@ -1,6 +1,6 @@
 -- What a record's type asks of its SIZE and its QQQQ.
-use Rattle.std.specs.Prelude.{ℕ, Bool, false, ◌&&◌, ◌||◌, List, drop}
-use Rattle.octets.specs.Choice.{if◌then◌else◌, ◌is◌, ◌≤?◌, between, ◌!◌}
+use Rattle.std.specs.Prelude.{ℕ, Bool, false, ◌&&◌, ◌||◌, List, drop, if◌then◌else◌}
+use Rattle.octets.specs.Choice.{◌is◌, ◌≤?◌, between, ◌!◌}
 use Rattle.octets.specs.Hex.{is_hex2, hex2}
 use Rattle.octets.specs.Bytes.{ZERO}
 use Rattle.board.specs.Files.{TEXT, STRING}

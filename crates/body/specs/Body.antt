@@ -1,6 +1,6 @@
 -- "Body: 1 to 64 blocks, then EOT as the very last byte."
-use Rattle.std.specs.Prelude.{ℕ, zero, suc, Bool, true, false, ◌&&◌, ◌||◌, List, [], ◌∷◌, length, drop}
-use Rattle.octets.specs.Choice.{if◌then◌else◌, ◌is◌, ◌!◌, front, behind}
+use Rattle.std.specs.Prelude.{ℕ, zero, suc, Bool, true, false, ◌&&◌, ◌||◌, List, [], ◌∷◌, length, drop, if◌then◌else◌}
+use Rattle.octets.specs.Choice.{◌is◌, ◌!◌, front, behind}
 use Rattle.octets.specs.Carried.{is_carried4, carried4}
 use Rattle.octets.specs.Bytes.{STX, ETX, EOT, B, F, H, J, N, is_plain}
 use Rattle.body.specs.Sum.{checksum}

@@ -1,6 +1,5 @@
 -- For contracts of inner functions only: what one walk over the blocks of a body tells of them.
-use Rattle.std.specs.Prelude.{ℕ, ◌+◌, ◌^◌, ◌<◌, Bool, true, false, ◌&&◌, ◌||◌, List, [], ◌∷◌, length}
-use Rattle.octets.specs.Choice.{if◌then◌else◌}
+use Rattle.std.specs.Prelude.{ℕ, ◌+◌, ◌^◌, ◌<◌, Bool, true, false, ◌&&◌, ◌||◌, List, [], ◌∷◌, length, if◌then◌else◌}
 use Rattle.octets.specs.Bytes.{BLOCKS}
 use Rattle.body.specs.Body.{Block, Body, bad_body, body, is_read, read_not_last}
 use Rattle.body.specs.declared.surveying.Survey.{Survey}

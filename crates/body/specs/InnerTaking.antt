@@ -1,6 +1,6 @@
 -- For contracts of inner functions only: the blocks of a body that is known to be good, taken one by one with their sums.
-use Rattle.std.specs.Prelude.{ℕ, ◌+◌, ◌||◌, List, length}
-use Rattle.octets.specs.Choice.{if◌then◌else◌, ◌is◌, ◌isn't◌, ◌!◌}
+use Rattle.std.specs.Prelude.{ℕ, ◌+◌, ◌||◌, List, length, if◌then◌else◌}
+use Rattle.octets.specs.Choice.{◌is◌, ◌isn't◌, ◌!◌}
 use Rattle.octets.specs.Bytes.{STX, ETX, EOT}
 use Rattle.body.specs.Sum.{checksum}
 use Rattle.body.specs.InnerWalking.{left}

@@ -1,7 +1,7 @@
 -- "The numbers that come back": for each, a call that answers it and a neighbour, one step away, that answers 0;
 -- where the number concerns one block, a neighbour whose frame runs, of which a block is done and none refused.
-use Rattle.std.specs.Prelude.{ℕ, zero, suc, ◌+◌, Bool, true, ◌&&◌, ◌||◌, List, [], ◌∷◌, ◌++◌, replicate}
-use Rattle.octets.specs.Choice.{if◌then◌else◌, ◌is◌, ◌isn't◌, ◌≤?◌}
+use Rattle.std.specs.Prelude.{ℕ, zero, suc, ◌+◌, Bool, true, ◌&&◌, ◌||◌, List, [], ◌∷◌, ◌++◌, replicate, if◌then◌else◌}
+use Rattle.octets.specs.Choice.{◌is◌, ◌isn't◌, ◌≤?◌}
 use Rattle.octets.specs.Buffer.{zeros}
 use Rattle.board.specs.Settings.{with_time}
 use Rattle.board.specs.Board.{Board, board, with_settings, with_memory}

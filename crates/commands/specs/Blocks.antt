@@ -1,6 +1,6 @@
 -- One block on a board: the command by its byte, the sum before it.
-use Rattle.std.specs.Prelude.{ℕ, not, List}
-use Rattle.octets.specs.Choice.{if◌then◌else◌, ◌is◌}
+use Rattle.std.specs.Prelude.{ℕ, not, List, if◌then◌else◌}
+use Rattle.octets.specs.Choice.{◌is◌}
 use Rattle.octets.specs.Bytes.{A, B, E, F, G, H}
 use Rattle.body.specs.Body.{Block}
 use Rattle.board.specs.Files.{TEXT, STRING}

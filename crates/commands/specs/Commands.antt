@@ -1,6 +1,6 @@
 -- The commands A, G, B and H.
-use Rattle.std.specs.Prelude.{ℕ, ◌-◌, List, [], ◌∷◌, ◌++◌, length, take, drop}
-use Rattle.octets.specs.Choice.{if◌then◌else◌, ◌isn't◌, ◌<?◌, ◌!◌, front}
+use Rattle.std.specs.Prelude.{ℕ, ◌-◌, List, [], ◌∷◌, ◌++◌, length, take, drop, if◌then◌else◌}
+use Rattle.octets.specs.Choice.{◌isn't◌, ◌<?◌, ◌!◌, front}
 use Rattle.octets.specs.Buffer.{zeros, splice}
 use Rattle.octets.specs.Bytes.{is_plain}
 use Rattle.board.specs.Files.{find}

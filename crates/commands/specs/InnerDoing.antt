@@ -1,7 +1,7 @@
 -- For contracts of inner functions only: what the commands need and leave. A, G, B and H neither take nor hand back the settings: what they
 -- answer and leave is their effect on every sound board of that index and that memory.
-use Rattle.std.specs.Prelude.{ℕ, ◌+◌, ◌≤◌, ◌≡◌, Bool, true, ◌&&◌, ◌||◌, List, [], length}
-use Rattle.octets.specs.Choice.{if◌then◌else◌, ◌is◌}
+use Rattle.std.specs.Prelude.{ℕ, ◌+◌, ◌≤◌, ◌≡◌, Bool, true, ◌&&◌, ◌||◌, List, [], length, if◌then◌else◌}
+use Rattle.octets.specs.Choice.{◌is◌}
 use Rattle.octets.specs.Bytes.{E, F}
 use Rattle.body.specs.Body.{Block}
 use Rattle.board.specs.Index.{ENTRIES}

@@ -8,7 +8,8 @@ use borrow.Author.Rules.{rules}
 use borrow.Author.Tests.{lt-ltb, le-ltb}
 use lib.ListN.{length, take, set}
 use lib.Seq.{take-suc, take_all, length-take-le}
-use Rattle.octets.specs.Choice.{if◌then◌else◌, ◌<?◌, ◌!◌}
+use Rattle.std.specs.Prelude.{if◌then◌else◌}
+use Rattle.octets.specs.Choice.{◌<?◌, ◌!◌}
 use Rattle.octets.specs.Carried.{capital}
 use Rattle.octets.specs.Buffer.{overlay}
 use Rattle.buffers.proofs.Splices.{overlay-none, overlay-append, length-overlay}

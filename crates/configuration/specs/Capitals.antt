@@ -1,7 +1,7 @@
 -- The "$" list in capitals. Request 4 takes small letters in "the hex digits of configuration records", and "What we store and reply
 -- stays in capitals".
-use Rattle.std.specs.Prelude.{ℕ, suc, ◌%◌, List, [], ◌∷◌}
-use Rattle.octets.specs.Choice.{if◌then◌else◌, ◌<?◌}
+use Rattle.std.specs.Prelude.{ℕ, suc, ◌%◌, List, [], ◌∷◌, if◌then◌else◌}
+use Rattle.octets.specs.Choice.{◌<?◌}
 use Rattle.octets.specs.Carried.{capital}
 
 -- the bytes of a list from place k on: the first three of each eleven, F, T and P, are no hex digits and are as sent; SIZE and QQQQ in capitals

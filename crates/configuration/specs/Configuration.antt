@@ -1,6 +1,6 @@
 -- "E "$": a list of 0 to 64 records replaces all files, contents empty."
-use Rattle.std.specs.Prelude.{ℕ, List, length}
-use Rattle.octets.specs.Choice.{if◌then◌else◌, ◌is◌}
+use Rattle.std.specs.Prelude.{ℕ, List, length, if◌then◌else◌}
+use Rattle.octets.specs.Choice.{◌is◌}
 use Rattle.board.specs.Settings.{with_files}
 use Rattle.board.specs.Files.{unused}
 use Rattle.board.specs.Index.{index_of}

@@ -1,7 +1,7 @@
 -- The "$" list: "a list of 0 to 64 records", and the files that it makes. The list is in capitals (Capitals), so its records are
 -- tested as memory's are (Soundness).
-use Rattle.std.specs.Prelude.{ℕ, zero, suc, ◌+◌, ◌-◌, ◌/◌, Bool, not, ◌&&◌, ◌||◌, List, [], ◌∷◌, ◌++◌, length, take, drop}
-use Rattle.octets.specs.Choice.{if◌then◌else◌, ◌is◌, ◌≤?◌, ◌<?◌, ◌!◌, none}
+use Rattle.std.specs.Prelude.{ℕ, zero, suc, ◌+◌, ◌-◌, ◌/◌, Bool, not, ◌&&◌, ◌||◌, List, [], ◌∷◌, ◌++◌, length, take, drop, if◌then◌else◌}
+use Rattle.octets.specs.Choice.{◌is◌, ◌≤?◌, ◌<?◌, ◌!◌, none}
 use Rattle.octets.specs.Hex.{in_hex4}
 use Rattle.octets.specs.Buffer.{zeros}
 use Rattle.board.specs.Files.{FILES, size_of, distinct}

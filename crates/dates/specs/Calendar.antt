@@ -1,6 +1,6 @@
 -- Request 1: which dates there are in the years 2000 to 2099. A year stands in full; months and days count from 1.
-use Rattle.std.specs.Prelude.{ℕ, ◌%◌, Bool, ◌&&◌, List, [], ◌∷◌}
-use Rattle.octets.specs.Choice.{if◌then◌else◌, ◌is◌, between, ◌!◌}
+use Rattle.std.specs.Prelude.{ℕ, ◌%◌, Bool, ◌&&◌, List, [], ◌∷◌, if◌then◌else◌}
+use Rattle.octets.specs.Choice.{◌is◌, between, ◌!◌}
 
 -- "years being 2000 to 2099"
 abbrev pub FIRST-YEAR : ℕ

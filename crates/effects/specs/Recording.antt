@@ -1,6 +1,6 @@
 -- Request 10: what a block leaves in the serial error status register.
-use Rattle.std.specs.Prelude.{ℕ, ◌||◌}
-use Rattle.octets.specs.Choice.{if◌then◌else◌, ◌is◌}
+use Rattle.std.specs.Prelude.{ℕ, ◌||◌, if◌then◌else◌}
+use Rattle.octets.specs.Choice.{◌is◌}
 use Rattle.register.specs.Register.{ILLEGAL, CHECKSUM, noted}
 use Rattle.board.specs.Settings.{with_errors}
 use Rattle.board.specs.declared.Settings.{Settings}

@@ -8,7 +8,8 @@ use native.Mathlib.Omega.{arith}
 use borrow.Author.Tests.{ne_eqb, le-leb, lt-ltb, le-ltb}
 use lib.Dec.{lit≤}
 use lib.ListN.{length}
-use Rattle.octets.specs.Choice.{if◌then◌else◌, ◌is◌}
+use Rattle.std.specs.Prelude.{if◌then◌else◌}
+use Rattle.octets.specs.Choice.{◌is◌}
 use Rattle.octets.specs.Hex.{digit, in_hex4}
 use Rattle.octets.specs.Bytes.{SOH, STX, ETX, EOT}
 use Rattle.octets.proofs.Tests.{choice, compare}

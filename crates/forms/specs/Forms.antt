@@ -1,6 +1,6 @@
 -- "Three forms we write."
-use Rattle.std.specs.Prelude.{ℕ, ◌/◌, ◌%◌, Bool, ◌&&◌, List, [], ◌∷◌, ◌++◌}
-use Rattle.octets.specs.Choice.{if◌then◌else◌, ◌is◌, ◌isn't◌, between}
+use Rattle.std.specs.Prelude.{ℕ, ◌/◌, ◌%◌, Bool, ◌&&◌, List, [], ◌∷◌, ◌++◌, if◌then◌else◌}
+use Rattle.octets.specs.Choice.{◌is◌, ◌isn't◌, between}
 use Rattle.octets.specs.Hex.{digit, in_hex4}
 use Rattle.octets.specs.Buffer.{zeros}
 use Rattle.octets.specs.Bytes.{SOH, STX, ETX, EOT, ESCAPE}

@@ -1,6 +1,6 @@
 -- For contracts of inner functions only: how long a result is, reckoned from what is known of its blocks.
-use Rattle.std.specs.Prelude.{ℕ, ◌+◌, ◌*◌, ◌≤◌, Bool, not, ◌&&◌, List, [], ◌∷◌}
-use Rattle.octets.specs.Choice.{if◌then◌else◌, ◌is◌}
+use Rattle.std.specs.Prelude.{ℕ, ◌+◌, ◌*◌, ◌≤◌, Bool, not, ◌&&◌, List, [], ◌∷◌, if◌then◌else◌}
+use Rattle.octets.specs.Choice.{◌is◌}
 use Rattle.octets.specs.Bytes.{is_plain}
 use Rattle.octets.specs.InnerCounts.{count}
 use Rattle.body.specs.Body.{Block}

@@ -1,7 +1,7 @@
 -- For contracts of inner functions only: a form as it is put together piece by piece.
-use Rattle.std.specs.Prelude.{ℕ, ◌+◌, ◌/◌, ◌%◌, ◌≤◌, ◌≡◌, Bool, true, false, List, [], ◌∷◌, ◌++◌, length}
+use Rattle.std.specs.Prelude.{ℕ, ◌+◌, ◌/◌, ◌%◌, ◌≤◌, ◌≡◌, Bool, true, false, List, [], ◌∷◌, ◌++◌, length, if◌then◌else◌}
 use Rattle.std.proofs.lemmas.List.Edits.{sets}
-use Rattle.octets.specs.Choice.{if◌then◌else◌, ◌is◌}
+use Rattle.octets.specs.Choice.{◌is◌}
 use Rattle.octets.specs.Bytes.{SOH, STX, ETX}
 use Rattle.octets.specs.Hex.{digit, in_hex4}
 use Rattle.body.specs.Sum.{checksum}

@@ -8,7 +8,8 @@ use native.Mathlib.Nat.{not-suc-le-zero}
 use lib.Dec.{lit≤}
 use lib.ListN.{length, length-append}
 use borrow.Author.Tests.{ltb-false, le-ltb}
-use Rattle.octets.specs.Choice.{if◌then◌else◌, ◌is◌, ◌<?◌}
+use Rattle.std.specs.Prelude.{if◌then◌else◌}
+use Rattle.octets.specs.Choice.{◌is◌, ◌<?◌}
 use Rattle.octets.specs.Hex.{in_hex4}
 use Rattle.octets.specs.Bytes.{TRANSLATED, BLOCKS}
 use Rattle.octets.proofs.Tests.{choice, or-out-left, or-out-right}

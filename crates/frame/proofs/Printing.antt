@@ -5,7 +5,8 @@ use mathlib.Core.List.{List, [], ◌∷◌}
 use Prim.Native.Nat.{ℕ, ◌/◌, ◌%◌, ◌<◌}
 use native.Mathlib.Omega.{arith}
 use borrow.Author.Tests.{lt-ltb, ltb-true, not-true}
-use Rattle.octets.specs.Choice.{if◌then◌else◌, ◌is◌, between, is_byte, all}
+use Rattle.std.specs.Prelude.{if◌then◌else◌}
+use Rattle.octets.specs.Choice.{◌is◌, between, is_byte, all}
 use Rattle.octets.specs.Hex.{digit}
 use Rattle.octets.specs.Bytes.{SOH, ESCAPE}
 use Rattle.octets.proofs.Tests.{choice, split}

@@ -7,7 +7,8 @@ use native.Mathlib.Omega.{arith}
 use lib.Dec.{lit≤}
 use lib.ListN.{length}
 use borrow.Author.Tests.{le-ltb, eqb-true, eqb-false, not-false}
-use Rattle.octets.specs.Choice.{if◌then◌else◌, ◌is◌, all, same}
+use Rattle.std.specs.Prelude.{if◌then◌else◌}
+use Rattle.octets.specs.Choice.{◌is◌, all, same}
 use Rattle.octets.specs.Bytes.{is_plain}
 use Rattle.octets.proofs.Tests.{choice}
 use Rattle.octets.proofs.Lists.{same-eq, same_self}

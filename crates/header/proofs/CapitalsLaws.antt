@@ -9,7 +9,8 @@ use lib.Dec.{lit<}
 use lib.ListN.{length, drop}
 use borrow.Author.Rules.{rules}
 use borrow.Author.Tests.{eqb-true, eqb-false, ne_eqb, not-true, not-false}
-use Rattle.octets.specs.Choice.{if◌then◌else◌, ◌is◌, ◌!◌, same}
+use Rattle.std.specs.Prelude.{if◌then◌else◌}
+use Rattle.octets.specs.Choice.{◌is◌, ◌!◌, same}
 use Rattle.octets.specs.Bytes.{COMMA, ZERO, ANY, PAIRS}
 use Rattle.octets.specs.Carried.{is_small, capital}
 use Rattle.octets.proofs.Tests.{choice, by-test, or-in, split}

@@ -1,7 +1,7 @@
 -- A header's capitals. Request 4: the "header addresses we write" are in capitals, and "Headers that differ only in this count as
 -- equal in joining and in demand 2."
-use Rattle.std.specs.Prelude.{ℕ, ◌+◌, ◌%◌, Bool, true, not, ◌&&◌, ◌||◌, List, [], ◌∷◌}
-use Rattle.octets.specs.Choice.{if◌then◌else◌, ◌is◌}
+use Rattle.std.specs.Prelude.{ℕ, ◌+◌, ◌%◌, Bool, true, not, ◌&&◌, ◌||◌, List, [], ◌∷◌, if◌then◌else◌}
+use Rattle.octets.specs.Choice.{◌is◌}
 use Rattle.octets.specs.Carried.{is_small, capital}
 
 -- the byte at place i of a header text: a pair and its comma are four bytes, so a type code stands at 0, 4, 8 ..; it is as sent,

@@ -8,7 +8,8 @@ use mathlib.Core.Bool.{Bool, true, false, ◌&&◌, ◌||◌}
 use native.Mathlib.Omega.{arith}
 use lib.ListN.{length, drop}
 use borrow.Author.Tests.{eqb-true}
-use Rattle.octets.specs.Choice.{if◌then◌else◌, ◌is◌, ◌≤?◌, ◌!◌, none, all}
+use Rattle.std.specs.Prelude.{if◌then◌else◌}
+use Rattle.octets.specs.Choice.{◌is◌, ◌≤?◌, ◌!◌, none, all}
 use Rattle.octets.specs.Carried.{is_carried2, carried2}
 use Rattle.octets.specs.Decimal.{is_decimal, decimal2}
 use Rattle.octets.specs.Bytes.{ZERO, F}

@@ -7,7 +7,8 @@ use mathlib.Core.Bool.{Bool, true, false, not}
 use native.Mathlib.Omega.{arith}
 use lib.ListN.{length, take, drop}
 use borrow.Author.Tests.{ltb-false, eqb-true, eqb-false}
-use Rattle.octets.specs.Choice.{if◌then◌else◌, ◌is◌, ◌isn't◌, ◌<?◌, ◌!◌, none, front}
+use Rattle.std.specs.Prelude.{if◌then◌else◌}
+use Rattle.octets.specs.Choice.{◌is◌, ◌isn't◌, ◌<?◌, ◌!◌, none, front}
 use Rattle.octets.specs.Bytes.{A, B, E, F, G, H, is_plain}
 use Rattle.octets.proofs.Tests.{choice, by-test, never}
 use Rattle.octets.proofs.Lists.{all_tail}

@@ -7,7 +7,8 @@ use native.Mathlib.Omega.{arith}
 use lib.ListN.{length, take, drop, length-append, length-take, length-drop}
 use lib.Seq.{take_at, drop_at, drop-drop}
 use borrow.Author.Tests.{eqb-true}
-use Rattle.octets.specs.Choice.{if◌then◌else◌, ◌is◌, ◌!◌, all}
+use Rattle.std.specs.Prelude.{if◌then◌else◌}
+use Rattle.octets.specs.Choice.{◌is◌, ◌!◌, all}
 use Rattle.octets.specs.Buffer.{zeros, splice}
 use Rattle.octets.specs.Bytes.{is_plain}
 use Rattle.octets.proofs.Tests.{choice, by-test, split}

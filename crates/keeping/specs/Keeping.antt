@@ -1,7 +1,7 @@
 -- What every command keeps: a sound board sound, every byte of a file that it does not name, and where it is refused the board, but for
 -- the serial error status register.
-use Rattle.std.specs.Prelude.{ℕ, ◌≤◌, ◌≡◌, List, [], Bool, true, false, ◌&&◌, ◌||◌, length, get_or}
-use Rattle.octets.specs.Choice.{if◌then◌else◌, ◌is◌, ◌!◌, all}
+use Rattle.std.specs.Prelude.{ℕ, ◌≤◌, ◌≡◌, List, [], Bool, true, false, ◌&&◌, ◌||◌, length, get_or, if◌then◌else◌}
+use Rattle.octets.specs.Choice.{◌is◌, ◌!◌, all}
 use Rattle.octets.specs.Bytes.{A, E, F, G, is_plain}
 use Rattle.body.specs.Body.{is_read}
 use Rattle.register.specs.Register.{CLEARED}

@@ -1,6 +1,5 @@
 -- For contracts of inner functions only: how many numbers of a list pass a test.
-use Rattle.std.specs.Prelude.{ℕ, suc, Bool, List, [], ◌∷◌}
-use Rattle.octets.specs.Choice.{if◌then◌else◌}
+use Rattle.std.specs.Prelude.{ℕ, suc, Bool, List, [], ◌∷◌, if◌then◌else◌}
 
 unfoldable pub count : (ℕ → Bool) → List ℕ → ℕ
 count p [] = 0

@@ -6,7 +6,8 @@ use mathlib.Core.Bool.{Bool, true, false, not}
 use native.Mathlib.Omega.{arith}
 use lib.ListN.{length, length-append}
 use borrow.Author.Tests.{eqb-true, ltb-false, le-ltb, not-true}
-use Rattle.octets.specs.Choice.{if◌then◌else◌, ◌is◌, ◌<?◌}
+use Rattle.std.specs.Prelude.{if◌then◌else◌}
+use Rattle.octets.specs.Choice.{◌is◌, ◌<?◌}
 use Rattle.octets.proofs.Tests.{by-test, or-out-left, or-out-right, split}
 use Rattle.header.specs.Addressing.{addressed, starts}
 use Rattle.body.specs.Body.{Block, is_read, read_not_last}

@@ -1,7 +1,7 @@
 -- The third demand, over what the calls promise: three runs and a joining, whatever their outcomes are.
 -- A run's promise is an equation, x ≡ run b o f: x is what the call answers, with the board and the reply buffer as it leaves them.
-use Rattle.std.specs.Prelude.{ℕ, ◌+◌, ◌≡◌, Bool, true, not, ◌&&◌, List, [], ◌∷◌}
-use Rattle.octets.specs.Choice.{if◌then◌else◌, ◌is◌, is_byte, all}
+use Rattle.std.specs.Prelude.{ℕ, ◌+◌, ◌≡◌, Bool, true, not, ◌&&◌, List, [], ◌∷◌, if◌then◌else◌}
+use Rattle.octets.specs.Choice.{◌is◌, is_byte, all}
 use Rattle.body.specs.Body.{Block}
 use Rattle.writing.specs.Output.{Output}
 use Rattle.writing.specs.Joining.{join}

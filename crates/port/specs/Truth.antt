@@ -1,6 +1,5 @@
 -- Yes and no as C has them.
-use Rattle.std.specs.Prelude.{ℕ, Bool}
-use Rattle.octets.specs.Choice.{if◌then◌else◌}
+use Rattle.std.specs.Prelude.{ℕ, Bool, if◌then◌else◌}
 
 -- 1 for yes, 0 for no
 abbrev pub truth : Bool → ℕ

@@ -1,6 +1,6 @@
 -- For contracts of inner functions only: what the parts of a reading answer, by the definitions.
-use Rattle.std.specs.Prelude.{ℕ, ◌+◌, ◌-◌, ◌≡◌, Bool, true, false, ◌&&◌, ◌||◌, List, [], ◌∷◌, length, drop}
-use Rattle.octets.specs.Choice.{if◌then◌else◌, ◌is◌, ◌isn't◌, ◌<?◌, between, front, part}
+use Rattle.std.specs.Prelude.{ℕ, ◌+◌, ◌-◌, ◌≡◌, Bool, true, false, ◌&&◌, ◌||◌, List, [], ◌∷◌, length, drop, if◌then◌else◌}
+use Rattle.octets.specs.Choice.{◌is◌, ◌isn't◌, ◌<?◌, between, front, part}
 use Rattle.octets.specs.InnerEqual.{differs}
 use Rattle.octets.specs.Bytes.{ESCAPE, PRINTABLE, TRANSLATED}
 use Rattle.octets.specs.Carried.{is_carried2, carried2}

@@ -1,7 +1,7 @@
 -- "Lead: five or more NUL and then SOH, or six or more SOH of which the last opens the header.
 -- Printable: any number of NUL, none included, then SOH; or one or more SOH."
-use Rattle.std.specs.Prelude.{ℕ, Bool, List, length, drop}
-use Rattle.octets.specs.Choice.{if◌then◌else◌, ◌is◌, ◌isn't◌, ◌<?◌, ◌!◌, front, behind}
+use Rattle.std.specs.Prelude.{ℕ, Bool, List, length, drop, if◌then◌else◌}
+use Rattle.octets.specs.Choice.{◌is◌, ◌isn't◌, ◌<?◌, ◌!◌, front, behind}
 use Rattle.octets.specs.Bytes.{NUL, SOH, is_nul}
 
 -- the byte SOH

@@ -1,6 +1,6 @@
 -- Where a frame's header and blocks stand: what a reading answers, and what it leaves in the room that it is lent.
-use Rattle.std.specs.Prelude.{ℕ, ◌+◌, ◌-◌, ◌≡◌, Bool, List, [], length}
-use Rattle.octets.specs.Choice.{if◌then◌else◌, ◌is◌, ◌<?◌, ◌!◌}
+use Rattle.std.specs.Prelude.{ℕ, ◌+◌, ◌-◌, ◌≡◌, Bool, List, [], length, if◌then◌else◌}
+use Rattle.octets.specs.Choice.{◌is◌, ◌<?◌, ◌!◌}
 use Rattle.octets.specs.Bytes.{ESCAPE, PRINTABLE, TRANSLATED}
 use Rattle.octets.specs.Buffer.{overlay}
 use Rattle.reading.specs.Translation.{Translation, untranslated, translated, translate}

@@ -1,7 +1,7 @@
 -- How a frame reads: a header text and blocks, or a refusal with its number.
 -- "empty (3), first byte (4), raw length (3), 5, translated length (3), lead (4), 6, 7, 8": from the last back to the first.
-use Rattle.std.specs.Prelude.{ℕ, Bool, true, false, not, ◌||◌, List, length}
-use Rattle.octets.specs.Choice.{if◌then◌else◌, ◌is◌, ◌isn't◌, ◌<?◌, ◌!◌, none, front, behind}
+use Rattle.std.specs.Prelude.{ℕ, Bool, true, false, not, ◌||◌, List, length, if◌then◌else◌}
+use Rattle.octets.specs.Choice.{◌is◌, ◌isn't◌, ◌<?◌, ◌!◌, none, front, behind}
 use Rattle.octets.specs.Bytes.{NUL, SOH, STX, ESCAPE, STANDARD, PRINTABLE, TRANSLATED, BLOCKS}
 use Rattle.reading.specs.Translation.{Translation, untranslated, translated, translate}
 use Rattle.reading.specs.Lead.{Led, misled, led, lead_of}

@@ -1,7 +1,7 @@
 -- The printable form, "where "_" and two upper-case hex digits stand for that byte and 20H to 7EH otherwise stand for themselves";
 -- request 4: small letters too.
-use Rattle.std.specs.Prelude.{ℕ, zero, suc, List, [], ◌∷◌}
-use Rattle.octets.specs.Choice.{if◌then◌else◌, ◌is◌, between}
+use Rattle.std.specs.Prelude.{ℕ, zero, suc, List, [], ◌∷◌, if◌then◌else◌}
+use Rattle.octets.specs.Choice.{◌is◌, between}
 use Rattle.octets.specs.Carried.{is_carried2, carried2}
 use Rattle.octets.specs.Bytes.{ESCAPE}
 

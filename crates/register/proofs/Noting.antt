@@ -7,7 +7,8 @@ use mathlib.Core.Bool.{Bool, true, not}
 use native.Mathlib.Omega.{arith}
 use lib.Bits.{bit_or, or_comm, or_self, and_mask}
 use borrow.Author.Tests.{not-true}
-use Rattle.octets.specs.Choice.{if◌then◌else◌, between}
+use Rattle.std.specs.Prelude.{if◌then◌else◌}
+use Rattle.octets.specs.Choice.{between}
 use Rattle.octets.proofs.Ranges.{on}
 use Rattle.octets.proofs.Tests.{by-test}
 use Rattle.register.specs.Register.{bit, is_register, noted, driven_by}

@@ -1,6 +1,5 @@
 -- Request 6: "the weekday (1 Sunday to 7 Saturday; 1 January 2000 gives 7) and the days between two dates, negative when the second is earlier".
-use Rattle.std.specs.Prelude.{ℕ, ◌+◌, ◌%◌, ◌&&◌, ℤ, pos, ◌-ℤ◌}
-use Rattle.octets.specs.Choice.{if◌then◌else◌}
+use Rattle.std.specs.Prelude.{ℕ, ◌+◌, ◌%◌, ◌&&◌, ℤ, pos, ◌-ℤ◌, if◌then◌else◌}
 use Rattle.renewal.specs.Counting.{exists, day_number}
 use Rattle.renewal.specs.declared.Date.{Date}
 use Rattle.renewal.specs.declared.DayOfWeek.{DayOfWeek}

@@ -1,6 +1,6 @@
 -- Request 6: the day after a date, for what is said of weekdays and days between dates.
-use Rattle.std.specs.Prelude.{◌+◌}
-use Rattle.octets.specs.Choice.{if◌then◌else◌, ◌<?◌}
+use Rattle.std.specs.Prelude.{◌+◌, if◌then◌else◌}
+use Rattle.octets.specs.Choice.{◌<?◌}
 use Rattle.renewal.specs.Counting.{date}
 use Rattle.renewal.specs.Stays.{last_day}
 use Rattle.renewal.specs.declared.Date.{Date}

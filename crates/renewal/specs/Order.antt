@@ -1,6 +1,6 @@
 -- Request 6, "negative when the second is earlier": which of two dates is the earlier one.
-use Rattle.std.specs.Prelude.{Bool}
-use Rattle.octets.specs.Choice.{if◌then◌else◌, ◌is◌, ◌<?◌}
+use Rattle.std.specs.Prelude.{Bool, if◌then◌else◌}
+use Rattle.octets.specs.Choice.{◌is◌, ◌<?◌}
 use Rattle.renewal.specs.declared.Date.{Date}
 
 -- by year; in one year by month; in one month by day

@@ -1,7 +1,7 @@
 -- Request 6: "Give a permit's first date and a count of months, forward or back, and return the renewal date". Signed numbers are
 -- written as in signed/specs/Floor: `negsuc y` is -(y + 1).
-use Rattle.std.specs.Prelude.{ℕ, ◌+◌, Bool, false, ℤ, pos, negsuc, nat_abs, ◌+ℤ◌}
-use Rattle.octets.specs.Choice.{if◌then◌else◌, ◌≤?◌, between}
+use Rattle.std.specs.Prelude.{ℕ, ◌+◌, Bool, false, ℤ, pos, negsuc, nat_abs, ◌+ℤ◌, if◌then◌else◌}
+use Rattle.octets.specs.Choice.{◌≤?◌, between}
 use Rattle.dates.specs.Calendar.{FIRST-YEAR, LAST-YEAR, month_length}
 use Rattle.signed.specs.Floor.{floor_div, floor_mod}
 use Rattle.renewal.specs.Counting.{date, exists, month_number}

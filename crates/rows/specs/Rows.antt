@@ -1,7 +1,7 @@
 -- Request 2, command I: what the text behind the height and the width means, for a picture of h rows and w columns.
 -- "1 to 31 rows, 1 to 255 columns": that those sent are the picture's own is the command's to say; here they are any two numbers.
-use Rattle.std.specs.Prelude.{ℕ, zero, suc, ◌-◌, Bool, ◌&&◌, List, [], ◌∷◌, ◌++◌, drop}
-use Rattle.octets.specs.Choice.{if◌then◌else◌, ◌is◌, ◌isn't◌, between, none, front, behind, all}
+use Rattle.std.specs.Prelude.{ℕ, zero, suc, ◌-◌, Bool, ◌&&◌, List, [], ◌∷◌, ◌++◌, drop, if◌then◌else◌}
+use Rattle.octets.specs.Choice.{◌is◌, ◌isn't◌, between, none, front, behind, all}
 use Rattle.octets.specs.Bytes.{ZERO}
 
 -- a line feed

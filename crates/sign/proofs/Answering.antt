@@ -7,7 +7,8 @@ use native.Mathlib.Omega.{arith}
 use borrow.Author.Rules.{rules}
 use borrow.Author.Tests.{eq-eqb, ne_eqb, lt-ltb, le-ltb, ltb-false, not-true, not-false}
 use lib.ListN.{length, take}
-use Rattle.octets.specs.Choice.{if◌then◌else◌, ◌is◌, ◌<?◌, part}
+use Rattle.std.specs.Prelude.{if◌then◌else◌}
+use Rattle.octets.specs.Choice.{◌is◌, ◌<?◌, part}
 use Rattle.octets.proofs.Tests.{by-test}
 use Rattle.header.specs.Addressing.{addressed, starts}
 use Rattle.body.specs.Body.{Block}

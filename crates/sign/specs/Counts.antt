@@ -1,6 +1,6 @@
 -- "each is the number of blocks of that outcome": the counts of a run by the numbers of its blocks.
-use Rattle.std.specs.Prelude.{ℕ, suc, ◌≡◌, List, [], ◌∷◌}
-use Rattle.octets.specs.Choice.{if◌then◌else◌, ◌is◌}
+use Rattle.std.specs.Prelude.{ℕ, suc, ◌≡◌, List, [], ◌∷◌, if◌then◌else◌}
+use Rattle.octets.specs.Choice.{◌is◌}
 use Rattle.body.specs.Body.{Block}
 use Rattle.board.specs.Board.{Board}
 use Rattle.commands.specs.Blocks.{run_block}

@@ -1,6 +1,6 @@
 -- Request 10: the serial error status register between runs, and through one.
-use Rattle.std.specs.Prelude.{ℕ, Bool, true, not, ◌&&◌, List, [], ◌∷◌}
-use Rattle.octets.specs.Choice.{if◌then◌else◌, ◌is◌}
+use Rattle.std.specs.Prelude.{ℕ, Bool, true, not, ◌&&◌, List, [], ◌∷◌, if◌then◌else◌}
+use Rattle.octets.specs.Choice.{◌is◌}
 use Rattle.register.specs.Register.{CLEARED, is_register, driven_by}
 use Rattle.body.specs.Body.{Block}
 use Rattle.board.specs.Settings.{with_errors}

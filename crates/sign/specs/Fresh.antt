@@ -1,6 +1,5 @@
 -- Making a fresh board.
-use Rattle.std.specs.Prelude.{ℕ, not, List, length, replicate, pos}
-use Rattle.octets.specs.Choice.{if◌then◌else◌}
+use Rattle.std.specs.Prelude.{ℕ, not, List, length, replicate, pos, if◌then◌else◌}
 use Rattle.octets.specs.Buffer.{zeros}
 use Rattle.header.specs.Addressing.{is_own_type}
 use Rattle.register.specs.Register.{CLEARED}

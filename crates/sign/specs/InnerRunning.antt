@@ -1,6 +1,6 @@
 -- For contracts of inner functions only: what the parts of a run need and answer, by the definitions.
-use Rattle.std.specs.Prelude.{ℕ, ◌+◌, ◌≤◌, ◌<◌, ◌≡◌, Bool, true, false, not, ◌&&◌, List, length}
-use Rattle.octets.specs.Choice.{if◌then◌else◌, ◌<?◌}
+use Rattle.std.specs.Prelude.{ℕ, ◌+◌, ◌≤◌, ◌<◌, ◌≡◌, Bool, true, false, not, ◌&&◌, List, length, if◌then◌else◌}
+use Rattle.octets.specs.Choice.{◌<?◌}
 use Rattle.octets.specs.Bytes.{BLOCKS}
 use Rattle.header.specs.Addressing.{addressed, starts}
 use Rattle.body.specs.Body.{Block}

@@ -1,6 +1,6 @@
 -- Running one frame on a board.
-use Rattle.std.specs.Prelude.{ℕ, ◌+◌, not, ◌&&◌, List, [], ◌∷◌, length}
-use Rattle.octets.specs.Choice.{if◌then◌else◌, ◌is◌, ◌<?◌}
+use Rattle.std.specs.Prelude.{ℕ, ◌+◌, not, ◌&&◌, List, [], ◌∷◌, length, if◌then◌else◌}
+use Rattle.octets.specs.Choice.{◌is◌, ◌<?◌}
 use Rattle.octets.specs.Buffer.{overlay}
 use Rattle.body.specs.Body.{Block}
 use Rattle.header.specs.Addressing.{addressed, starts}

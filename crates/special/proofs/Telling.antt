@@ -11,7 +11,8 @@ use lib.ListN.{length, take, drop, length-append, length-drop}
 use lib.Seq.{length-take-le}
 use borrow.Author.Rules.{rules}
 use borrow.Author.Tests.{eq-eqb, ne_eqb, leb-true, not-true, not-false}
-use Rattle.octets.specs.Choice.{if◌then◌else◌, ◌is◌, ◌isn't◌, ◌!◌}
+use Rattle.std.specs.Prelude.{if◌then◌else◌}
+use Rattle.octets.specs.Choice.{◌is◌, ◌isn't◌, ◌!◌}
 use Rattle.octets.specs.Bytes.{COMMA, ZERO, E, F}
 use Rattle.octets.specs.Hex.{in_hex4}
 use Rattle.octets.specs.Decimal.{in_decimal2}

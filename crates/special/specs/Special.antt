@@ -1,6 +1,6 @@
 -- The special functions: E sets, F tells.
-use Rattle.std.specs.Prelude.{ℕ, Bool, not, ◌&&◌, ◌||◌, List, [], ◌∷◌, ◌++◌, length, drop}
-use Rattle.octets.specs.Choice.{if◌then◌else◌, ◌is◌, ◌≤?◌, ◌!◌, none, all}
+use Rattle.std.specs.Prelude.{ℕ, Bool, not, ◌&&◌, ◌||◌, List, [], ◌∷◌, ◌++◌, length, drop, if◌then◌else◌}
+use Rattle.octets.specs.Choice.{◌is◌, ◌≤?◌, ◌!◌, none, all}
 use Rattle.octets.specs.Hex.{in_hex4}
 use Rattle.octets.specs.Carried.{is_carried2, carried2}
 use Rattle.octets.specs.Decimal.{is_decimal, decimal2, in_decimal2}

@@ -1,6 +1,6 @@
 // The special functions: E sets, F tells.
-ghost use Rattle.std.specs.Prelude.{◌≡◌, true, ◌+◌, ◌≤◌, length, [], ◌∷◌, ◌++◌};
-ghost use Rattle.octets.specs.Choice.{if◌then◌else◌, ◌is◌};
+ghost use Rattle.std.specs.Prelude.{◌≡◌, true, ◌+◌, ◌≤◌, length, [], ◌∷◌, ◌++◌, if◌then◌else◌};
+ghost use Rattle.octets.specs.Choice.{◌is◌};
 ghost use Rattle.octets.specs.Hex.{in_hex4};
 ghost use Rattle.octets.specs.Bytes.{COMMA, ZERO, F};
 ghost use Rattle.board.specs.Settings.{ON, in_range};

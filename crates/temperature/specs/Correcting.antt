@@ -1,6 +1,5 @@
 -- Request 9: "A call adds the offset to a reading from -128 to 127 and returns the exact sum."
-use Rattle.std.specs.Prelude.{ℕ, Bool, ℤ, pos, negsuc, ◌+ℤ◌}
-use Rattle.octets.specs.Choice.{if◌then◌else◌}
+use Rattle.std.specs.Prelude.{ℕ, Bool, ℤ, pos, negsuc, ◌+ℤ◌, if◌then◌else◌}
 use Rattle.signed.specs.Between.{from_to}
 use Rattle.temperature.specs.Offset.{is_offset}
 use Rattle.temperature.specs.declared.Corrected.{Corrected}

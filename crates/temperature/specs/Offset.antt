@@ -1,7 +1,7 @@
 -- Request 9, Set Temperature Offset: "a sign and one digit 0 to 9, so -9 to 9". Signed numbers are written as in signed/specs/Floor:
 -- `negsuc 8` is -9.
-use Rattle.std.specs.Prelude.{ℕ, ◌-◌, Bool, ◌&&◌, ◌||◌, List, length, ℤ, pos, negsuc, neg_ℤ}
-use Rattle.octets.specs.Choice.{if◌then◌else◌, ◌is◌, ◌!◌}
+use Rattle.std.specs.Prelude.{ℕ, ◌-◌, Bool, ◌&&◌, ◌||◌, List, length, ℤ, pos, negsuc, neg_ℤ, if◌then◌else◌}
+use Rattle.octets.specs.Choice.{◌is◌, ◌!◌}
 use Rattle.octets.specs.Decimal.{is_decimal}
 use Rattle.signed.specs.Between.{from_to}
 

@@ -8,7 +8,8 @@ use borrow.Author.Rules.{rules}
 use borrow.Author.Tests.{lt-ltb, not-false}
 use lib.Dec.{lit≤}
 use lib.ListN.{length}
-use Rattle.octets.specs.Choice.{if◌then◌else◌, ◌is◌, all}
+use Rattle.std.specs.Prelude.{if◌then◌else◌}
+use Rattle.octets.specs.Choice.{◌is◌, all}
 use Rattle.octets.specs.Bytes.{TRANSLATED, is_plain}
 use Rattle.octets.specs.InnerCounts.{count}
 use Rattle.octets.proofs.Counts.{count-few}

@@ -1,6 +1,6 @@
 -- For contracts of inner functions only: what they need of a frame that was read, and what they answer.
-use Rattle.std.specs.Prelude.{ℕ, ◌≤◌, ◌≡◌, Bool, true, ◌||◌, List, length, drop}
-use Rattle.octets.specs.Choice.{if◌then◌else◌, ◌is◌, ◌<?◌, all, part}
+use Rattle.std.specs.Prelude.{ℕ, ◌≤◌, ◌≡◌, Bool, true, ◌||◌, List, length, drop, if◌then◌else◌}
+use Rattle.octets.specs.Choice.{◌is◌, ◌<?◌, all, part}
 use Rattle.octets.specs.Bytes.{TRANSLATED, BLOCKS, is_plain}
 use Rattle.header.specs.Header.{is_header}
 use Rattle.body.specs.Body.{Block, blocks}

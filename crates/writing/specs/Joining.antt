@@ -1,6 +1,6 @@
 -- "Joining puts the second frame's blocks after the first's under the common header."
-use Rattle.std.specs.Prelude.{ℕ, not, List, ◌++◌}
-use Rattle.octets.specs.Choice.{if◌then◌else◌, same}
+use Rattle.std.specs.Prelude.{ℕ, not, List, ◌++◌, if◌then◌else◌}
+use Rattle.octets.specs.Choice.{same}
 use Rattle.header.specs.Addressing.{starts}
 use Rattle.body.specs.Body.{has_read}
 use Rattle.reading.specs.Reading.{Reading, refused, frame, read}

@@ -1,6 +1,6 @@
 -- What a call that writes a form answers, and what it leaves in the output buffer.
-use Rattle.std.specs.Prelude.{ℕ, Bool, ◌||◌, List, length}
-use Rattle.octets.specs.Choice.{if◌then◌else◌, ◌is◌, ◌<?◌, between}
+use Rattle.std.specs.Prelude.{ℕ, Bool, ◌||◌, List, length, if◌then◌else◌}
+use Rattle.octets.specs.Choice.{◌is◌, ◌<?◌, between}
 use Rattle.octets.specs.Buffer.{overlay}
 use Rattle.octets.specs.Bytes.{TRANSLATED, BLOCKS}
 use Rattle.body.specs.Body.{Block}

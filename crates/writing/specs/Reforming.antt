@@ -1,6 +1,5 @@
 -- Putting a frame into another form.
-use Rattle.std.specs.Prelude.{ℕ, not, List}
-use Rattle.octets.specs.Choice.{if◌then◌else◌}
+use Rattle.std.specs.Prelude.{ℕ, not, List, if◌then◌else◌}
 use Rattle.body.specs.Body.{all_right}
 use Rattle.reading.specs.Reading.{Reading, refused, frame, read}
 use Rattle.reading.specs.Capitals.{in_capitals}

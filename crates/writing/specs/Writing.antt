@@ -1,6 +1,6 @@
 -- Writing a one-command frame.
-use Rattle.std.specs.Prelude.{ℕ, true, not, ◌&&◌, List, [], ◌∷◌}
-use Rattle.octets.specs.Choice.{if◌then◌else◌, all}
+use Rattle.std.specs.Prelude.{ℕ, true, not, ◌&&◌, List, [], ◌∷◌, if◌then◌else◌}
+use Rattle.octets.specs.Choice.{all}
 use Rattle.header.specs.Header.{is_header}
 use Rattle.header.specs.Capitals.{header_capitals}
 use Rattle.octets.specs.Bytes.{is_plain}
