@@ -3,8 +3,8 @@
 #![tactic(auto)]
 
 pub mod blocks;
-pub mod dates;
 pub mod frames;
+pub mod renewals;
 pub mod signs;
 pub mod temperatures;
 mod truth;

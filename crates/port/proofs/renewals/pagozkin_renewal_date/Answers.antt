@@ -1,5 +1,5 @@
 use Rattle.port.proofs.Telling.{renewing}
-use Rattle.port.proofs.dates.pagozkin_renewal_date.Goals as goal
+use Rattle.port.proofs.renewals.pagozkin_renewal_date.Goals as goal
 
 pub renewal_date-requires : goal.renewal_date-requires
 renewal_date-requires c = search renewing
