@@ -8,6 +8,7 @@ use board::files::{RECORD, SIZE};
 use octets::hex::capital;
 
 // A byte of the list: F, T and P are as sent, the digits of SIZE and QQQQ in capitals.
+#[tactic(auto, using(crate::proofs::CapitalsLaws::filled))]
 fn capital_in(d: &[u8], i: usize) -> u8
     requires { i < length d.now }
     ensures { result ≡ list_capitals d.now ! i }

@@ -234,6 +234,7 @@ fn run_blocks(s: Settings, m: &mut [u8], out: &mut [u8], t: &[u8], from: usize) 
 }
 
 // Why a frame of this header is not run: 9, and 28 "straight after 9"; 0 where it is.
+#[tactic(auto, using(crate::proofs::Answering::admitting))]
 fn admission(h: &[u8], own: u8, address: u8, room: usize) -> u8
     ensures { result ≡ admission own address h.now room }
 {

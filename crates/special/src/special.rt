@@ -364,6 +364,7 @@ fn after_told(s: Settings, label: u8) -> Settings
 }
 
 // F: "without data".
+#[tactic(auto, using(crate::proofs::Telling::reading))]
 pub fn read_special(s: Settings, m: &[u8], text: &[u8], out: &mut [u8]) -> Done
     requires { Ready (board s m.now) out.old }
     ensures { left_as result m.now out.new ≡ leaving out.old (read_special (board s m.now) text.now) }

@@ -150,10 +150,12 @@ fn join_right(
     if !is_common(&s[header..from], &t[head..place]) {
         return unwritten(HEADERS_DIFFER);
     }
-    if starts(&s[header..from]) {
+    let alone = starts(&s[header..from]);
+    if alone {
         return unwritten(START_JOINED);
     }
-    if seen.read {
+    let read = seen.read;
+    if read {
         return unwritten(FIRST_HAS_READ);
     }
     join_calm(form, s, header, from, seen, t, place, other, out)
@@ -182,7 +184,8 @@ fn join_parts(
             body: place,
             seen: other,
         } => {
-            if !other.right {
+            let right = other.right;
+            if !right {
                 return unwritten(WRONG_SUM);
             }
             join_right(form, s, header, from, seen, t, head, place, other, out)

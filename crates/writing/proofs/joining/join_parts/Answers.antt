@@ -10,11 +10,11 @@ unwritten-requires c = search seconds
 pub enum_known-parts-in-At-1 : goal.enum_known-parts-in-At-1
 enum_known-parts-in-At-1 c = search seconds
 
-pub unwritten-requires-then-not-other : goal.unwritten-requires-then-not-other
-unwritten-requires-then-not-other c = search seconds
+pub unwritten-requires-then-not-right : goal.unwritten-requires-then-not-right
+unwritten-requires-then-not-right c = search seconds
 
-pub returns-then-not-other : goal.returns-then-not-other
-returns-then-not-other c = search seconds
+pub returns-then-not-right : goal.returns-then-not-right
+returns-then-not-right c = search seconds
 
 pub join_right-requires : goal.join_right-requires
 join_right-requires c = search seconds
@@ -25,5 +25,5 @@ returns-in-Refused c = search seconds
 pub shape_of-out : goal.shape_of-out
 shape_of-out c = search seconds
 
-pub returns-else-not-other : goal.returns-else-not-other
-returns-else-not-other c = search seconds
+pub returns-else-not-right : goal.returns-else-not-right
+returns-else-not-right c = search seconds

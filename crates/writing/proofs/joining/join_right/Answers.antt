@@ -37,20 +37,20 @@ slice_bounds-starts-start c = search joining
 pub slice_bounds-starts-end : goal.slice_bounds-starts-end
 slice_bounds-starts-end c = search joining
 
-pub starts-requires : goal.starts-requires
-starts-requires c = search joining
+pub starts-alone-requires : goal.starts-alone-requires
+starts-alone-requires c = search joining
 
-pub unwritten-requires-then-starts : goal.unwritten-requires-then-starts
-unwritten-requires-then-starts c = search joining
+pub unwritten-requires-then-alone : goal.unwritten-requires-then-alone
+unwritten-requires-then-alone c = search joining
 
-pub returns-then-starts : goal.returns-then-starts
-returns-then-starts c = search joining
+pub returns-then-alone : goal.returns-then-alone
+returns-then-alone c = search joining
 
-pub unwritten-requires-then-seen : goal.unwritten-requires-then-seen
-unwritten-requires-then-seen c = search joining
+pub unwritten-requires-then-read : goal.unwritten-requires-then-read
+unwritten-requires-then-read c = search joining
 
-pub returns-then-seen : goal.returns-then-seen
-returns-then-seen c = search joining
+pub returns-then-read : goal.returns-then-read
+returns-then-read c = search joining
 
 pub join_calm-requires : goal.join_calm-requires
 join_calm-requires c = search joining
