@@ -1,10 +1,8 @@
 -- The port driver's call, over what it promises: a sound board stays sound, once more is no change, and the order does not matter.
 use Prim.Native.Nat.{ℕ}
 use mathlib.Core.Path.{◌≡◌, ap, ◌∙◌}
-use mathlib.Core.Bool.{Bool, true, false, not}
+use mathlib.Core.Bool.{true, false}
 use lib.Bits.{bit_and}
-use borrow.Author.Rules.{rules}
-use borrow.Author.Tests.{not-true, not-false}
 use Rattle.octets.proofs.Tests.{by-test, choice}
 use Rattle.register.specs.Register.{is_register, driven_by}
 use Rattle.register.proofs.Noting.{again, either_order, driver-fixed}
@@ -15,21 +13,6 @@ use Rattle.board.specs.declared.Settings.{Settings}
 use Rattle.keeping.proofs.Keeping.{errors-sound}
 use Rattle.sign.specs.Errors.{driven_as, port_errors}
 use Rattle.sign.specs.declared.Driven.{Driven}
-
--- ---- as the code tells it; b is its answer to the register
-
-module _ (s : Settings) (bits : ℕ) (b : Bool) (e : b ≡ is_register s.errors) where
-  pub driven-not : not b ≡ true → driven_as 1 s ≡ port_errors s bits
-  unfolding port_errors
-  driven-not n = rw (← e, not-true b n)
-
-  pub driven-done : not b ≡ false → (x : ℕ) → x ≡ driven_by s.errors bits → (t : Settings) → t ≡ with_errors s x → driven_as 0 t ≡ port_errors s bits
-  unfolding port_errors
-  driven-done n x q t p = rw (← e, not-false b n, p, q)
-
-pub ruleset driving = (driven-not, driven-done, rules)
-
--- ---- the theorems
 
 -- a sound board stays sound
 pub port-sound : (b : Board) (bits : ℕ) → sound b ≡ true → sound (with_settings b (port_errors b.settings bits).settings) ≡ true

@@ -8,17 +8,19 @@ use board::Settings;
 use register::{driven_by, is_register};
 
 // Parity, framing and time-out that the byte has are set: 0, or 1 and the settings as they were. Nothing but the register is looked at.
+// One answer for both cases: the compiler would copy the settings to the stack for two.
 pub fn port_errors(s: Settings, bits: u8) -> Driven
     ensures { result ≡ port_errors s bits }
 {
-    if !is_register(s.errors) {
-        return Driven {
-            number: NOT_SOUND,
-            settings: s,
-        };
-    }
+    let known = is_register(s.errors);
+    let number = if known { 0 } else { NOT_SOUND };
+    let errors = if known {
+        driven_by(s.errors, bits)
+    } else {
+        s.errors
+    };
     Driven {
-        number: 0,
-        settings: s.with_errors(driven_by(s.errors, bits)),
+        number,
+        settings: s.with_errors(errors),
     }
 }

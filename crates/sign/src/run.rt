@@ -108,6 +108,8 @@ fn untouched(s: Settings, number: u8) -> Answer
 }
 
 // E or F, and the counts with it, as the answer so far; its number is noted in the register.
+// Put into its caller, so that the settings are not copied once more for it.
+#[inline(always)]
 fn special_one(
     s: Settings,
     tally: Tally,
