@@ -1,5 +1,5 @@
 -- What the call answers, over what it promises: "the exact sum", and 0 where it refuses.
-use Prim.Native.Nat.{ℕ, suc, ◌-◌, ◌+◌, ◌≤◌}
+use Prim.Native.Nat.{ℕ, suc, ◌-◌, ◌≤◌}
 use mathlib.Core.Path.{◌≡◌, refl}
 use mathlib.Core.Bool.{Bool, true, false, cond}
 use native.Mathlib.Omega.{arith}

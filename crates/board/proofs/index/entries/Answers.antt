@@ -1,4 +1,3 @@
-use Prim.Native.Nat.{◌-◌}
 use Rattle.board.proofs.IndexLaws.{placing}
 use Rattle.board.proofs.index.entries.Goals as goal
 

@@ -1,7 +1,7 @@
 -- What was found is what stands at the reader's place; the frame stays, and the place is left behind what was found.
 use Rattle.std.proofs.Common.{◌≡◌, ℕ, length, refl}
 use Rattle.body.specs.Steps.{found_at}
-use Rattle.body.specs.Readers.{place_behind, place_after, Stepped}
+use Rattle.body.specs.Readers.{place_behind, place_after}
 use Rattle.body.specs.declared.BlockStep.{BlockStep}
 use Rattle.body.specs.declared.reader.Reader.{Reader}
 use Rattle.body.proofs.reader.step.Goals as goal

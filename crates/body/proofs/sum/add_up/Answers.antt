@@ -1,4 +1,3 @@
-use Rattle.std.proofs.Common.{◌-◌}
 use Rattle.body.proofs.SumLaws.{summing}
 use Rattle.body.proofs.sum.add_up.Goals as goal
 

@@ -1,4 +1,3 @@
-use Prim.Native.Nat.{◌-◌}
 use Rattle.buffers.proofs.Stores.{copies}
 use Rattle.buffers.proofs.copying.copy_at.Goals as goal
 

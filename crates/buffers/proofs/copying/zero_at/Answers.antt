@@ -1,4 +1,3 @@
-use Prim.Native.Nat.{◌-◌}
 use Rattle.buffers.proofs.Stores.{zeroes}
 use Rattle.buffers.proofs.copying.zero_at.Goals as goal
 

@@ -1,4 +1,3 @@
-use Prim.Native.Nat.{◌-◌}
 use Rattle.buffers.proofs.DecimalLaws.{decimals}
 use Rattle.buffers.proofs.decimal.all_decimal.Goals as goal
 

@@ -1,4 +1,3 @@
-use Prim.Native.Nat.{◌-◌}
 use Rattle.configuration.proofs.CapitalsLaws.{filled}
 use Rattle.configuration.proofs.capitals.put_capitals.Goals as goal
 

@@ -1,4 +1,3 @@
-use Prim.Native.Nat.{◌-◌}
 use Rattle.forms.proofs.FormsLaws.{copying}
 use Rattle.forms.proofs.forms.put_each.Goals as goal
 

@@ -1,4 +1,3 @@
-use Prim.Native.Nat.{◌-◌}
 use Rattle.forms.proofs.FormsLaws.{capitals}
 use Rattle.forms.proofs.forms.put_header.Goals as goal
 

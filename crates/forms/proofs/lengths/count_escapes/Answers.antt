@@ -1,4 +1,3 @@
-use Prim.Native.Nat.{◌-◌}
 use Rattle.octets.proofs.Counts.{counting}
 use Rattle.forms.proofs.lengths.count_escapes.Goals as goal
 

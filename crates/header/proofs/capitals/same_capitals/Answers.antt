@@ -1,4 +1,3 @@
-use Prim.Native.Nat.{◌-◌}
 use Rattle.header.proofs.CapitalsLaws.{caps}
 use Rattle.header.proofs.capitals.same_capitals.Goals as goal
 

@@ -1,4 +1,3 @@
-use Prim.Native.Nat.{◌-◌}
 use Rattle.octets.proofs.SlicesLaws.{testing}
 use Rattle.octets.proofs.slices.all_nul.Goals as goal
 

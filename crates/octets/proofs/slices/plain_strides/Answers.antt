@@ -1,4 +1,3 @@
-use Prim.Native.Nat.{◌-◌}
 use Rattle.octets.proofs.SlicesLaws.{running}
 use Rattle.octets.proofs.slices.plain_strides.Goals as goal
 

@@ -1,4 +1,3 @@
-use Prim.Native.Nat.{◌-◌}
 use Rattle.octets.proofs.SlicesLaws.{alike}
 use Rattle.octets.proofs.slices.same.Goals as goal
 

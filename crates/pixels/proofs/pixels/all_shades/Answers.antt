@@ -1,4 +1,3 @@
-use Prim.Native.Nat.{◌-◌}
 use Rattle.pixels.proofs.PixelsLaws.{laws}
 use Rattle.pixels.proofs.pixels.all_shades.Goals as goal
 

@@ -8,10 +8,6 @@
 -- src/store.rt:21:5
 -- src/store.rt:12:1
 use Rattle.pixels.proofs.StoreLaws.{storing}
-use Rattle.pixels.proofs.store.sound_at.Reads as reads
-use Rattle.pixels.proofs.store.sound_at.Lts as lts
-use Rattle.pixels.proofs.pixels.bytes_for.Reads as bytes-for-reads
-use Rattle.pixels.proofs.pixels.sound_picture.Reads as sound-picture-reads
 use Rattle.pixels.proofs.store.sound_at.Goals as goal
 
 pub bytes_for-long-requires : goal.bytes_for-long-requires

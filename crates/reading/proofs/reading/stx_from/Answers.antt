@@ -1,5 +1,4 @@
 use Rattle.reading.proofs.Parting.{seeking}
-use Prim.Native.Nat.{◌-◌}
 use Rattle.reading.proofs.reading.stx_from.Goals as goal
 
 pub loop-i-init : goal.loop-i-init

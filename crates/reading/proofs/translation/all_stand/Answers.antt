@@ -1,4 +1,3 @@
-use Prim.Native.Nat.{◌-◌}
 use Rattle.reading.proofs.Marks.{standing}
 use Rattle.reading.proofs.translation.all_stand.Goals as goal
 

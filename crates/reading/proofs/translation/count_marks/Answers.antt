@@ -1,4 +1,3 @@
-use Prim.Native.Nat.{◌-◌}
 use Rattle.reading.proofs.Marks.{marks}
 use Rattle.reading.proofs.translation.count_marks.Goals as goal
 

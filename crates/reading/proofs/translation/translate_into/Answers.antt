@@ -1,4 +1,3 @@
-use Prim.Native.Nat.{◌-◌}
 use Rattle.reading.proofs.Chars.{filling}
 use Rattle.reading.proofs.translation.translate_into.Goals as goal
 

@@ -1,4 +1,3 @@
-use Prim.Native.Nat.{◌-◌}
 use Rattle.rows.proofs.RowsLaws.{drawing}
 use Rattle.rows.proofs.rows.draw.Goals as goal
 

@@ -1,4 +1,3 @@
-use Prim.Native.Nat.{◌-◌}
 use Rattle.rows.proofs.RowsLaws.{judging}
 use Rattle.rows.proofs.rows.well_formed.Goals as goal
 
