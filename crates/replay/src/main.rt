@@ -32,6 +32,9 @@ fn read_full<R: Read>(input: &mut R, buf: &mut [u8]) -> io::Result<usize>
 {
     let mut at = 0;
     for _ in 0..u64::MAX {
+        if at == buf.len() {
+            break;
+        }
         let n = input.read(&mut buf[at..])?;
         if n == 0 {
             break;
