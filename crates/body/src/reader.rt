@@ -54,7 +54,7 @@ pub fn step<'s, 'a>(r: &'s mut Reader<'a>) -> BlockStep
     found
 }
 
-// From a slice and a place to a reader and back: its contract says nothing of a reader, so whoever calls it needs no walk.
+// From a slice and a place to a reader and back: its contract says nothing of a reader, so whoever calls it need not know of one.
 pub fn step_from(s: &[u8], at: usize) -> BlockStep
     ensures { result ≡ found_at s.now at }
 {
