@@ -7,14 +7,14 @@ use native.Mathlib.Omega.{arith}
 use borrow.Author.Rules.{rules}
 use borrow.Author.Tests.{eq-eqb, ne_eqb, le-leb, lt-leb}
 use lib.ListN.{length, drop}
+use Rattle.std.specs.Prelude.{Option, Some, None}
 use Rattle.octets.specs.Choice.{◌is◌, ◌!◌}
 use Rattle.octets.proofs.Counts.{count-one, count_none, counting}
 use Rattle.octets.proofs.Tests.{compare}
-use Rattle.board.specs.Files.{taken}
-use Rattle.board.specs.Index.{FIRST-LABEL, LAST-LABEL, ENTRIES, NOWHERE, entry, of_type, look_up}
+use Rattle.board.specs.Files.{taken, content}
+use Rattle.board.specs.Index.{FIRST-LABEL, LAST-LABEL, NOWHERE, entry, of_type, look_up}
 use Rattle.board.specs.InnerNoted.{is_place, entries, Within}
-use Rattle.board.specs.declared.Found.{Found}
-use Rattle.board.specs.declared.Found.TheVariants.{At, Nothing}
+use Rattle.board.specs.declared.Content.{Content}
 
 -- ---- the entry of a label
 
@@ -34,9 +34,6 @@ module _ (p : List ℕ) (label : ℕ) where
   pub entry-slot : FIRST-LABEL ≤ label → label ≤ LAST-LABEL → (i : ℕ) → i ≡ label - FIRST-LABEL → p ! i ≡ entry p label
   entry-slot a b i e = rw e (entry-there a b)
 
-  pub entry-told : (v at : ℕ) → v ≡ entry p label → (v is at) ≡ (entry p label is at)
-  entry-told v at e = rw e
-
   -- a byte has no entry where it has none if it is a label
   pub entry-nowhere : (FIRST-LABEL ≤ label → label ≤ LAST-LABEL → entry p label ≡ NOWHERE) → entry p label ≡ NOWHERE
   entry-nowhere h =
@@ -48,7 +45,7 @@ module _ (p : List ℕ) (label : ℕ) where
       compare label FIRST-LABEL (λ a. absurd (n (sym (entry-low a))))
       (λ a. compare LAST-LABEL label (λ b. absurd (n (sym (entry-high b)))) (λ b. (a, b)))
 
-pub ruleset entering = (entry-low, entry-high, entry-slot, entry-told, rules)
+pub ruleset entering = (entry-low, entry-high, entry-slot, rules)
 
 -- ---- how many labels have one
 
@@ -61,26 +58,23 @@ module _ (p : List ℕ) (i : ℕ) (h : i < length p) where
   unfolding is_place
   place-one n = count-one is_place p i h true (rw (ne_eqb (p ! i) NOWHERE n)) refl
 
-pub places-few : (p : List ℕ) → length p ≡ ENTRIES → length p < 65536
-places-few p l = omega arith
-
-pub ruleset placing = (place_none, place-one, places-few, counting)
+pub ruleset placing = (place_none, place-one, counting)
 
 -- ---- the file that it names
 
 module _ (m : List ℕ) (place kind : ℕ) where
   -- b says whether it is of that type
   module _ (b : Bool) (e : b ≡ (m ! (place + 1) is kind)) where
-    pub type-other : b ≡ false → Nothing ≡ of_type m place kind
+    pub type-other : b ≡ false → None ≡ of_type m place kind
     unfolding of_type
     type-other h = rw (← e, h)
 
-    pub type-same : b ≡ true → (size : ℕ) → size ≡ taken (drop place m) → At (place + 11) size ≡ of_type m place kind
+    pub type-same : b ≡ true → (size : ℕ) → size ≡ taken (drop place m) → Some (content (place + 11) size) ≡ of_type m place kind
     unfolding of_type
     type-same h size f = rw (← e, h, ← f)
 
 module _ (p m : List ℕ) (label place : ℕ) (e : place ≡ entry p label) where
-  pub look_none : place ≡ NOWHERE → (kind : ℕ) → Nothing ≡ look_up p m label kind
+  pub look_none : place ≡ NOWHERE → (kind : ℕ) → None ≡ look_up p m label kind
   unfolding look_up
   look_none h kind = rw (← e, eq-eqb place NOWHERE h)
 
@@ -88,7 +82,7 @@ module _ (p m : List ℕ) (label place : ℕ) (e : place ≡ entry p label) wher
     pub look-inside : Within p m label → place + 11 ≤ length m
     look-inside g = rw e (g.inside (λ z. n (e ∙ z)))
 
-    pub look-some : (kind : ℕ) (r : Found) → r ≡ of_type m place kind → r ≡ look_up p m label kind
+    pub look-some : (kind : ℕ) (r : Option Content) → r ≡ of_type m place kind → r ≡ look_up p m label kind
     unfolding look_up
     look-some kind r f = rw (← e, ne_eqb place NOWHERE n) f
 

@@ -8,7 +8,7 @@ use native.Mathlib.Omega.{arith}
 use borrow.Author.Tests.{eq-eqb, ne_eqb, eqb-true, eqb-false, leb-true, not-true}
 use lib.ListN.{length, drop, set, length-set, get_or-replicate, drop_of_length-le}
 use lib.Seq.{get_or-set_same, get_or-set_other, ext_get_or}
-use Rattle.std.specs.Prelude.{if◌then◌else◌}
+use Rattle.std.specs.Prelude.{None, if◌then◌else◌}
 use Rattle.octets.specs.Choice.{◌is◌, ◌≤?◌, between, ◌!◌, among}
 use Rattle.octets.specs.InnerCounts.{count}
 use Rattle.octets.proofs.Spots.{drop-on}
@@ -17,7 +17,6 @@ use Rattle.board.specs.Files.{File, taken, files_of, used, labels, distinct, is_
 use Rattle.board.specs.Soundness.{is_label, is_record, holds_files}
 use Rattle.board.specs.Index.{FIRST-LABEL, LAST-LABEL, ENTRIES, NOWHERE, entry, names_each, names_no_other, is_index, no_entries, entered, of_type, look_up}
 use Rattle.board.specs.InnerNoted.{is_place, entries, Within}
-use Rattle.board.specs.declared.Found.TheVariants.{Nothing}
 use Rattle.board.proofs.Checks.{at_label, at_other}
 use Rattle.board.proofs.Layouts.{AllValid}
 use Rattle.board.proofs.Walking.{next, Standing, files-step, head-label, room, stand-start, stand-next, find-step, body-size, file-inside}
@@ -154,7 +153,7 @@ module _ (p : List ℕ) where
 -- ---- the file of a label and type
 
 -- no file has the label
-unfound : (fs : List File) (label kind place : ℕ) → among label (labels fs) ≡ false → find label kind fs place ≡ Nothing
+unfound : (fs : List File) (label kind place : ℕ) → among label (labels fs) ≡ false → find label kind fs place ≡ None
 unfolding find is_at among labels
 unfound [] label kind place c = refl
 unfound (f ∷ fs) label kind place c =

@@ -1,9 +1,8 @@
 -- Request 7: "Keep, for each label 20H to 7EH, where its record begins or that there is none, and answer from that."
-use Rattle.std.specs.Prelude.{ℕ, zero, suc, ◌+◌, ◌-◌, Bool, true, ◌&&◌, ◌||◌, List, [], ◌∷◌, length, drop, set, replicate, if◌then◌else◌}
+use Rattle.std.specs.Prelude.{ℕ, zero, suc, ◌+◌, ◌-◌, Bool, true, ◌&&◌, ◌||◌, List, [], ◌∷◌, length, drop, set, replicate, Option, Some, None, if◌then◌else◌}
 use Rattle.octets.specs.Choice.{◌is◌, between, ◌!◌, among}
-use Rattle.board.specs.Files.{File, taken, files_of, labels}
-use Rattle.board.specs.declared.Found.{Found}
-use Rattle.board.specs.declared.Found.TheVariants.{At, Nothing}
+use Rattle.board.specs.Files.{File, taken, files_of, labels, content}
+use Rattle.board.specs.declared.Content.{Content}
 
 -- "label 20H to 7EH"
 abbrev pub FIRST-LABEL : ℕ
@@ -52,9 +51,9 @@ unfoldable pub index_of : ℕ → List ℕ → List ℕ
 index_of n m = entered (files_of n m) 0 no_entries
 
 -- the file at a place, where it is of a type
-unfoldable pub of_type : List ℕ → ℕ → ℕ → Found
-of_type m place kind = if m ! (place + 1) is kind then At (place + 11) (taken (drop place m)) else Nothing
+unfoldable pub of_type : List ℕ → ℕ → ℕ → Option Content
+of_type m place kind = if m ! (place + 1) is kind then Some (content (place + 11) (taken (drop place m))) else None
 
 -- "answer from that": the file of a label and type, by the entry of the label and then the type at that place
-unfoldable pub look_up : List ℕ → List ℕ → ℕ → ℕ → Found
-look_up p m label kind = if entry p label is NOWHERE then Nothing else of_type m (entry p label) kind
+unfoldable pub look_up : List ℕ → List ℕ → ℕ → ℕ → Option Content
+look_up p m label kind = if entry p label is NOWHERE then None else of_type m (entry p label) kind

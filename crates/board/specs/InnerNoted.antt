@@ -1,24 +1,22 @@
 -- For contracts of inner functions only: files, with the unused amount and the index that the settings keep of them.
-use Rattle.std.specs.Prelude.{ℕ, ◌+◌, ◌≤◌, ◌≡◌, Bool, ◌&&◌, List, length, if◌then◌else◌}
+use Rattle.std.specs.Prelude.{ℕ, ◌+◌, ◌≤◌, ◌≡◌, Bool, ◌&&◌, List, length, Option, Some, None, if◌then◌else◌}
 use Rattle.octets.specs.Choice.{◌is◌, ◌isn't◌}
 use Rattle.octets.specs.InnerCounts.{count}
-use Rattle.octets.specs.declared.hex.Four.{Four}
-use Rattle.octets.specs.declared.hex.Four.TheVariants.{Value, Bad}
 use Rattle.board.specs.Files.{size_of, taken, files_of, unused}
 use Rattle.board.specs.Index.{NOWHERE, entry, names_each, is_index}
 use Rattle.board.specs.Soundness.{is_size, is_record, is_file_at, holds_files, sound_memory}
 
 -- the SIZE of the record at the start of r, or that it is none
-unfoldable pub size_or_none : Bool → List ℕ → Four
-size_or_none zero_too r = if is_size zero_too r then Value (size_of r) else Bad
+unfoldable pub size_or_none : Bool → List ℕ → Option ℕ
+size_or_none zero_too r = if is_size zero_too r then Some (size_of r) else None
 
 -- the same, or that the record is none
-unfoldable pub record_or_none : Bool → List ℕ → Four
-record_or_none zero_too r = if is_record zero_too r then Value (size_of r) else Bad
+unfoldable pub record_or_none : Bool → List ℕ → Option ℕ
+record_or_none zero_too r = if is_record zero_too r then Some (size_of r) else None
 
--- how many bytes the file at the start of r takes, 0 where there is none
-unfoldable pub length_at : List ℕ → ℕ
-length_at r = if is_file_at r then 11 + taken r else 0
+-- how many bytes the file at the start of r takes, or that there is none
+unfoldable pub length_at : List ℕ → Option ℕ
+length_at r = if is_file_at r then Some (11 + taken r) else None
 
 -- an entry that is a place
 unfoldable pub is_place : ℕ → Bool

@@ -5,6 +5,7 @@ ghost use Rattle.board.specs.Files.{size_of, taken};
 use octets::hex::number_at;
 
 // "T: "A" TEXT, "B" STRING."
+// Stays: these are bytes of memory, as they stand there.
 pub const TEXT: u8 = 0x41;
 
 pub const STRING: u8 = 0x42;
@@ -21,6 +22,7 @@ pub const SIZE: usize = 3;
 pub const CODES: usize = 7;
 
 // The SIZE of the record at a place.
+// Stays: a place and no record, here and below, since the answer is promised where memory ends inside the record, too.
 pub fn size_at(m: &[u8], at: usize) -> usize
     requires { at ≤ length m.now }
     ensures { result ≡ size_of (drop at m.now) }

@@ -1,8 +1,6 @@
 // "Settings travel as one record, handed in and handed back": a method for each special function returns the next settings.
 ghost use Rattle.std.specs.Prelude.{◌≡◌, ◌&&◌, ◌||◌};
 ghost use Rattle.octets.specs.Choice.{◌is◌, ◌≤?◌};
-ghost use Rattle.temperature.specs.Offset.{is_offset};
-ghost use Rattle.register.specs.Register.{is_register};
 ghost use Rattle.board.specs.Settings.{FORMAT-S, FORMAT-M, OFF, ON, in_date, in_range, with_time, with_date, with_format, with_speaker, with_address, with_offset, with_errors, cleared, with_files};
 
 use crate::Settings;
@@ -12,6 +10,7 @@ use register::{CLEARED, is_register};
 use temperature::offset::is_offset;
 
 // time formats "S" and "M"
+// Stays: C's settings have these bytes, and those of the speaker.
 pub const FORMAT_S: u8 = 0x53;
 
 pub const FORMAT_M: u8 = 0x4D;
@@ -26,84 +25,79 @@ const LAST_HOUR: u8 = 23;
 
 const LAST_MINUTE: u8 = 59;
 
+// Stays: a settings struct with methods that take self, one for each special function, is document 01's own form.
 impl Settings {
     pub fn with_time(self, hour: u8, minute: u8) -> Settings
         ensures { result ≡ with_time self hour minute }
     {
-        let mut next = self;
-        next.hour = hour;
-        next.minute = minute;
-        next
+        Settings {
+            hour,
+            minute,
+            ..self
+        }
     }
 
     pub fn with_date(self, month: u8, day: u8, year: u8) -> Settings
         ensures { result ≡ with_date self month day year }
     {
-        let mut next = self;
-        next.month = month;
-        next.day = day;
-        next.year = year;
-        next
+        Settings {
+            month,
+            day,
+            year,
+            ..self
+        }
     }
 
     pub fn with_format(self, format: u8) -> Settings
         ensures { result ≡ with_format self format }
     {
-        let mut next = self;
-        next.format = format;
-        next
+        Settings { format, ..self }
     }
 
     pub fn with_speaker(self, speaker: u8) -> Settings
         ensures { result ≡ with_speaker self speaker }
     {
-        let mut next = self;
-        next.speaker = speaker;
-        next
+        Settings { speaker, ..self }
     }
 
     pub fn with_address(self, address: u8) -> Settings
         ensures { result ≡ with_address self address }
     {
-        let mut next = self;
-        next.address = address;
-        next
+        Settings { address, ..self }
     }
 
     pub fn with_offset(self, offset: i8) -> Settings
         ensures { result ≡ with_offset self offset }
     {
-        let mut next = self;
-        next.offset = offset;
-        next
+        Settings { offset, ..self }
     }
 
     pub fn with_errors(self, errors: u8) -> Settings
         ensures { result ≡ with_errors self errors }
     {
-        let mut next = self;
-        next.errors = errors;
-        next
+        Settings { errors, ..self }
     }
 
     // The serial error status register as it is on a fresh board.
     pub fn cleared(self) -> Settings
         ensures { result ≡ cleared self }
     {
-        let mut next = self;
-        next.errors = CLEARED;
-        next
+        Settings {
+            errors: CLEARED,
+            ..self
+        }
     }
 
     // All that "$" changes.
     pub fn with_files(self, files: u8, unused: u16, places: [u16; 95]) -> Settings
         ensures { result ≡ with_files self files unused places }
     {
-        let mut next = self;
-        next.files = files;
-        next.unused = unused;
-        next.places = places;
-        next
+        Settings {
+            files,
+            unused,
+            places,
+            ..self
+        }
     }
 }
 
@@ -118,7 +112,7 @@ pub fn in_time(hour: u8, minute: u8) -> bool
 pub fn in_date(month: u8, day: u8, year: u8) -> bool
     ensures { result ≡ in_date month day year }
 {
-    is_date(FIRST_YEAR + year as u16, month, day)
+    is_date(FIRST_YEAR + u16::from(year), month, day)
 }
 
 // ""S" or "M""
@@ -135,35 +129,15 @@ fn is_speaker(speaker: u8) -> bool
     speaker == OFF || speaker == ON
 }
 
-// Request 10: a register has its fixed bits; request 9: an offset is -9 to 9. By themselves, since the search goes through five tests in a
-// row and not through seven.
-fn errors_and_offset_in_range(s: Settings) -> bool
-    ensures { result ≡ (is_register s.errors && is_offset s.offset) }
-{
-    if !is_register(s.errors) {
-        return false;
-    }
-    is_offset(s.offset)
-}
-
 // "time, date, speaker, format, type are in range. Any address 00 to FF is in range."; and what requests 9 and 10 ask.
 pub fn in_range(s: Settings) -> bool
     ensures { result ≡ in_range s }
 {
-    if !in_time(s.hour, s.minute) {
-        return false;
-    }
-    if !in_date(s.month, s.day, s.year) {
-        return false;
-    }
-    if !is_format(s.format) {
-        return false;
-    }
-    if !is_speaker(s.speaker) {
-        return false;
-    }
-    if !is_own_type(s.own) {
-        return false;
-    }
-    errors_and_offset_in_range(s)
+    in_time(s.hour, s.minute)
+        && in_date(s.month, s.day, s.year)
+        && is_format(s.format)
+        && is_speaker(s.speaker)
+        && is_own_type(s.own)
+        && is_register(s.errors)
+        && is_offset(s.offset)
 }

@@ -1,5 +1,5 @@
 // "A board is sound when all this holds".
-ghost use Rattle.std.specs.Prelude.{◌≡◌, ◌&&◌, ◌+◌, ◌≤◌, length, drop};
+ghost use Rattle.std.specs.Prelude.{◌≡◌, ◌&&◌, ◌≤◌, length, drop};
 ghost use Rattle.octets.specs.Choice.{◌is◌};
 ghost use Rattle.board.specs.Kinds.{kind_of, is_size_of, is_start_code, is_stop_code};
 ghost use Rattle.board.specs.Index.{entry};
@@ -9,13 +9,14 @@ ghost use Rattle.board.specs.InnerNoted.{size_or_none, record_or_none, length_at
 
 use crate::Settings;
 use crate::files::{CODES, FILES, RECORD, SIZE, STRING, TEXT};
-use crate::index::{entries, entry};
+use crate::index::{LABELS, entries, entry};
 use crate::setting::in_range;
 use octets::bytes::{ANY, FIRST_PRINTABLE, LAST_PRINTABLE, ZERO};
-use octets::hex::{Four, Two, are_zeros, four_at, two_at};
+use octets::hex::{are_zeros, four_at, two_at};
 use octets::slices::{all_nul, plain_run};
 
 // "P: "U" or "L""
+// Stays: these are bytes of memory, as they stand there.
 pub const UNLOCKED: u8 = 0x55;
 
 const LOCKED: u8 = 0x4C;
@@ -69,80 +70,63 @@ fn is_size_of(kind: u8, size: u16, nought: bool) -> bool
     }
 }
 
-// "SIZE: four upper-case hex digits", of the record at a place; whether a TEXT's may be 0000 is told.
-fn size_or_none(m: &[u8], at: usize, nought: bool) -> Four
-    requires { at + 11 ≤ length m.now }
-    ensures { result ≡ size_or_none nought (drop at m.now) }
+// "SIZE: four upper-case hex digits"; whether a TEXT's may be 0000 is told.
+fn size_or_none(head: &[u8; RECORD], nought: bool) -> Option<u16>
+    ensures { result ≡ size_or_none nought head.now }
 {
-    match four_at(m, at + SIZE) {
-        Four::Bad => Four::Bad,
-        Four::Value(v) => {
-            if is_size_of(m[at + 1], v, nought) {
-                return Four::Value(v);
-            }
-            Four::Bad
-        }
+    let size = four_at(head, SIZE)?;
+    if is_size_of(head[1], size, nought) {
+        Some(size)
+    } else {
+        None
     }
 }
 
 // "a start code 00 to 8F, FD, FE or FF"
-fn is_start_code(m: &[u8], at: usize) -> bool
-    requires { at ≤ length m.now }
-    ensures { result ≡ is_start_code (drop at m.now) }
+// Stays: this and the next are one test each; one function that takes the test would be longer.
+fn is_start_code(s: &[u8], at: usize) -> bool
+    requires { at ≤ length s.now }
+    ensures { result ≡ is_start_code (drop at s.now) }
 {
-    match two_at(m, at) {
-        Two::Bad => false,
-        Two::Value(v) => v <= LAST_CODE || FIRST_SPECIAL_CODE <= v,
-    }
+    two_at(s, at).is_some_and(|code| code <= LAST_CODE || FIRST_SPECIAL_CODE <= code)
 }
 
 // "a stop code 00 to 8F"
-fn is_stop_code(m: &[u8], at: usize) -> bool
-    requires { at ≤ length m.now }
-    ensures { result ≡ is_stop_code (drop at m.now) }
+fn is_stop_code(s: &[u8], at: usize) -> bool
+    requires { at ≤ length s.now }
+    ensures { result ≡ is_stop_code (drop at s.now) }
 {
-    match two_at(m, at) {
-        Two::Bad => false,
-        Two::Value(v) => v <= LAST_CODE,
-    }
+    two_at(s, at).is_some_and(|code| code <= LAST_CODE)
 }
 
 // "QQQQ: for TEXT a start code .. and a stop code 00 to 8F; for STRING "0000"."
-fn is_codes(m: &[u8], at: usize) -> bool
-    requires { at + 11 ≤ length m.now }
-    ensures { result ≡ is_codes (drop at m.now) }
+fn is_codes(head: &[u8; RECORD]) -> bool
+    ensures { result ≡ is_codes head.now }
 {
-    let q = at + CODES;
-    match m[at + 1] {
-        TEXT => is_start_code(m, q) && is_stop_code(m, q + 2),
-        STRING => are_zeros(m[q], m[q + 1]) && are_zeros(m[q + 2], m[q + 3]),
+    match head[1] {
+        TEXT => is_start_code(head, CODES) && is_stop_code(head, CODES + 2),
+        STRING => are_zeros(head[CODES], head[CODES + 1])
+            && are_zeros(head[CODES + 2], head[CODES + 3]),
         _ => false,
     }
 }
 
 // "A record is F T P SIZE QQQQ (Table 14).": its SIZE, or that it is none.
-fn record_or_none(m: &[u8], at: usize, nought: bool) -> Four
-    requires { at + 11 ≤ length m.now }
-    ensures { result ≡ record_or_none nought (drop at m.now) }
+fn record_or_none(head: &[u8; RECORD], nought: bool) -> Option<u16>
+    ensures { result ≡ record_or_none nought head.now }
 {
-    if !is_named(m[at], m[at + 2]) {
-        return Four::Bad;
+    if is_named(head[0], head[2]) && is_codes(head) {
+        size_or_none(head, nought)
+    } else {
+        None
     }
-    if !is_codes(m, at) {
-        return Four::Bad;
-    }
-    size_or_none(m, at, nought)
 }
 
-// Whether a record stands at a place.
-pub fn is_record(m: &[u8], at: usize, nought: bool) -> bool
-    requires { at + 11 ≤ length m.now }
-    ensures { result ≡ is_record nought (drop at m.now) }
+// Whether it is one.
+pub fn is_record(head: &[u8; RECORD], nought: bool) -> bool
+    ensures { result ≡ is_record nought head.now }
 {
-    match record_or_none(m, at, nought) {
-        Four::Bad => false,
-        Four::Value(_) => true,
-    }
+    record_or_none(head, nought).is_some()
 }
 
 // "Content is zero or more bytes 05H to FFH, then 00H up to SIZE."
@@ -153,60 +137,44 @@ fn is_content(c: &[u8]) -> bool
     all_nul(&c[end..])
 }
 
-// The bytes that the file at a place takes, its record and its content inside memory; 0 where no file stands there.
-fn length_at(m: &[u8], at: usize) -> usize
-    requires { at ≤ length m.now }
-    ensures { result ≡ length_at (drop at m.now) }
+// The bytes that the file at the start takes, its record and its content inside memory; none where no file stands there.
+fn length_at(rest: &[u8]) -> Option<usize>
+    ensures { result ≡ length_at rest.now }
 {
-    if m.len() - at < RECORD {
-        return 0;
-    }
-    match record_or_none(m, at, false) {
-        Four::Bad => 0,
-        Four::Value(v) => {
-            let size = v as usize;
-            let from = at + RECORD;
-            if m.len() - from < size {
-                return 0;
-            }
-            let to = from + size;
-            if !is_content(&m[from..to]) {
-                return 0;
-            }
-            RECORD + size
-        }
+    let (head, behind) = rest.split_first_chunk::<RECORD>()?;
+    let size = usize::from(record_or_none(head, false)?);
+    let (content, _) = behind.split_at_checked(size)?;
+    if is_content(content) {
+        Some(RECORD + size)
+    } else {
+        None
     }
 }
 
 // Whether the entry of a label is a place.
-fn is_entered(places: &[u16], label: u8, at: usize) -> bool
-    requires { length places.now ≡ 95 }
+fn is_entered(places: &[u16; LABELS], label: u8, at: usize) -> bool
     ensures { result ≡ (entry places.now label is at) }
 {
-    entry(places, label) as usize == at
+    usize::from(entry(places, label)) == at
 }
 
 // n files in order without gaps, each where the index has its label; "Memory after the last file is 00H."; and so many bytes are
 // behind them as are told: one walk.
-fn holds_files(m: &[u8], n: usize, rest: usize, places: &[u16]) -> bool
-    requires { length places.now ≡ 95 }
+fn holds_files(m: &[u8], n: u8, rest: u16, places: &[u16; LABELS]) -> bool
     ensures { result ≡ holds_noted n rest places.now m.now }
 {
     let mut at: usize = 0;
-    let mut left = n;
-    while 0 < left {
-        let long = length_at(m, at);
-        if long == 0 {
+    for _i in 0..n {
+        let Some(long) = length_at(&m[at..]) else {
             return false;
-        }
+        };
         if !is_entered(places, m[at], at) {
             return false;
         }
         at += long;
-        left -= 1;
     }
     let behind = m.len() - at;
-    behind == rest && all_nul(&m[at..])
+    behind == usize::from(rest) && all_nul(&m[at..])
 }
 
 // "Memory is 64 to 32,768 bytes."
@@ -217,37 +185,23 @@ pub fn is_memory(length: usize) -> bool
 }
 
 // As many entries as files.
-fn as_many(places: &[u16], n: u8) -> bool
-    requires { length places.now ≡ 95 }
+fn as_many(places: &[u16; LABELS], n: u8) -> bool
     ensures { result ≡ (entries places.now is n) }
 {
-    entries(places) == n as u16
+    entries(places) == u16::from(n)
 }
 
 // Memory with n files, so many bytes unused, and the index: where it has every file's place, as many entries as files say that it has
 // no other.
-fn sound_memory(m: &[u8], n: u8, rest: u16, places: &[u16]) -> bool
-    requires { length places.now ≡ 95 }
+fn sound_memory(m: &[u8], n: u8, rest: u16, places: &[u16; LABELS]) -> bool
     ensures { result ≡ sound_noted n rest places.now m.now }
 {
-    if !is_memory(m.len()) {
-        return false;
-    }
-    if FILES < n {
-        return false;
-    }
-    if !holds_files(m, n as usize, rest as usize, places) {
-        return false;
-    }
-    as_many(places, n)
+    is_memory(m.len()) && n <= FILES && holds_files(m, n, rest, places) && as_many(places, n)
 }
 
 // Soundness of a board, whatever its settings and its memory are.
 pub fn sound(s: Settings, m: &[u8]) -> bool
     ensures { result ≡ sound (board s m.now) }
 {
-    if !in_range(s) {
-        return false;
-    }
-    sound_memory(m, s.files, s.unused, &s.places)
+    in_range(s) && sound_memory(m, s.files, s.unused, &s.places)
 }

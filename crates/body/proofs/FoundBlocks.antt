@@ -1,7 +1,7 @@
 -- What is found at a place, read back: it is the block that the definitions see, it lies inside the bytes, and its data are bytes from 05H up.
 -- Then the blocks from a place on, by what is found there: a loop over the blocks goes by these.
 use Rattle.std.proofs.Common.{◌≡◌, ℕ, zero, suc, ◌+◌, ◌-◌, ◌<◌, ◌≤◌, Bool, true, ◌&&◌, ◌||◌, List, [], ◌∷◌, length, take, drop, sym, refl, ap, ◌∙◌, subst, arith, length-drop, drop-drop, eqb-true}
-use Rattle.octets.specs.Choice.{◌is◌, ◌!◌, front, behind, all, part}
+use Rattle.octets.specs.Choice.{◌is◌, ◌!◌, front, behind, all}
 use Rattle.octets.specs.Carried.{is_carried4, carried4}
 use Rattle.octets.specs.Bytes.{STX, ETX, EOT, is_plain}
 use Rattle.octets.proofs.Spots.{head_at, there}
@@ -10,7 +10,8 @@ use Rattle.octets.proofs.Tests.{choice, and_left}
 use Rattle.body.specs.Sum.{checksum}
 use Rattle.body.specs.Body.{block, Step, stray, more, last, bad_body, body}
 use Rattle.body.specs.Body.{is_end, follow, after_etx, after_data, block_at, prepend, onward, blocks}
-use Rattle.body.specs.Steps.{placed, found_at}
+use Rattle.body.specs.Steps.{by_places, placed, found_at, data_of, read_back}
+use Rattle.body.specs.declared.Placed.{Placed}
 use Rattle.body.specs.declared.BlockStep.{BlockStep}
 use Rattle.body.specs.declared.BlockStep.TheVariants.{Stray, More, Last}
 use Rattle.body.proofs.WellFormed.{anything, all-anything, StepOf, block_of}
@@ -20,19 +21,19 @@ use Rattle.body.proofs.WellFormed.{anything, all-anything, StepOf, block_of}
 -- what was found at a place of s, read back without places
 unfoldable pub step_view : List ℕ → BlockStep → Step
 step_view s Stray = stray
-step_view s (More c i j r n) = more (block c (part i j s) r) (drop n s)
-step_view s (Last c i j r) = last (block c (part i j s) r)
+step_view s (More b n) = more (read_back s b) (drop n s)
+step_view s (Last b) = last (read_back s b)
 
--- a block's data, from place i up to place j, and a next block at place n
-pub record MoreIn (s : List ℕ) (i j n : ℕ) : Type 0 where
-  pub ordered : i ≤ j
-  pub ended : j ≤ n
+-- a block's data, and a next block at place n
+pub record MoreIn (s : List ℕ) (b : Placed) (n : ℕ) : Type 0 where
+  pub ordered : b.from ≤ b.to
+  pub ended : b.to ≤ n
   pub within : n < length s
 
 -- the last block's data
-pub record LastIn (s : List ℕ) (i j : ℕ) : Type 0 where
-  pub ordered : i ≤ j
-  pub within : j < length s
+pub record LastIn (s : List ℕ) (b : Placed) : Type 0 where
+  pub ordered : b.from ≤ b.to
+  pub within : b.to < length s
 
 -- a block's data are the bytes from place i on
 abbrev TextAt : List ℕ → ℕ → List ℕ → Type 0
@@ -42,8 +43,8 @@ TextAt s i d = take (length d) (drop i s) ≡ d
 abbrev In : List ℕ → ℕ → Step → Type 0
 In s at stray = Unit {0}
 In s at (more b l) =
-    TextAt s (at + 2) b.text × (drop (length s - length l) s ≡ l) × MoreIn s (at + 2) (at + 2 + length b.text) (length s - length l)
-In s at (last b) = TextAt s (at + 2) b.text × LastIn s (at + 2) (at + 2 + length b.text)
+    TextAt s (at + 2) b.text × (drop (length s - length l) s ≡ l) × MoreIn s (by_places (at + 2) b) (length s - length l)
+In s at (last b) = TextAt s (at + 2) b.text × LastIn s (by_places (at + 2) b)
 
 -- a byte that is not 0 is inside
 stands : (s : List ℕ) (k x : ℕ) → 0 < x → (drop k s ! 0 is x) ≡ true → k < length s
@@ -119,8 +120,8 @@ module _ (s : List ℕ) (at : ℕ) where
 -- the places of an answer
 abbrev PlacesIn : List ℕ → BlockStep → Type 0
 PlacesIn s Stray = Unit {0}
-PlacesIn s (More c i j k n) = MoreIn s i j n
-PlacesIn s (Last c i j k) = LastIn s i j
+PlacesIn s (More b n) = MoreIn s b n
+PlacesIn s (Last b) = LastIn s b
 
 placed-in : (s : List ℕ) (at : ℕ) (x : Step) → In s at x → PlacesIn s (placed s at x)
 unfolding placed
@@ -135,25 +136,25 @@ places-in s at = placed-in s at (block_at (drop at s)) (block_in s at)
 -- ---- r is what is found at place at: what a step answers
 module _ (s : List ℕ) (at : ℕ) (r : BlockStep) (e : r ≡ found_at s at) where
   -- a block with another behind it stands inside
-  module _ {c i j : ℕ} {k : Bool} {n : ℕ} (h : r ≡ More c i j k n) where
-    pub more-in : MoreIn s i j n
+  module _ {b : Placed} {n : ℕ} (h : r ≡ More b n) where
+    pub more-in : MoreIn s b n
     more-in = subst (PlacesIn s) (sym e ∙ h) (places-in s at)
 
-    pub more-ordered : i ≤ j
+    pub more-ordered : b.from ≤ b.to
     more-ordered = more-in.ordered
 
-    pub more-inside : j ≤ length s
+    pub more-inside : b.to ≤ length s
     more-inside = omega (arith, more-in)
 
   -- and so does a last one
-  module _ {c i j : ℕ} {k : Bool} (h : r ≡ Last c i j k) where
-    pub last-in : LastIn s i j
+  module _ {b : Placed} (h : r ≡ Last b) where
+    pub last-in : LastIn s b
     last-in = subst (PlacesIn s) (sym e ∙ h) (places-in s at)
 
-    pub last-ordered : i ≤ j
+    pub last-ordered : b.from ≤ b.to
     last-ordered = last-in.ordered
 
-    pub last-inside : j ≤ length s
+    pub last-inside : b.to ≤ length s
     last-inside = omega (arith, last-in)
 
   -- what stands there, by the answer
@@ -164,39 +165,29 @@ module _ (s : List ℕ) (at : ℕ) (r : BlockStep) (e : r ≡ found_at s at) whe
   plain-there : (x : BlockStep) → r ≡ x → StepOf anything (step_view s x)
   plain-there x h = subst (StepOf anything) (seen x h) (block_of anything (drop at s) (all-anything (drop at s)))
 
-  pub more-plain : {c i j : ℕ} {k : Bool} {n : ℕ} → r ≡ More c i j k n → all is_plain (part i j s) ≡ true
+  pub more-plain : {b : Placed} {n : ℕ} → r ≡ More b n → all is_plain (data_of s b) ≡ true
   unfolding step_view
-  more-plain {c} {i} {j} {k} {n} h = (plain-there (More c i j k n) h).0.plain.following
+  more-plain {b} {n} h = (plain-there (More b n) h).0.plain.following
 
-  pub last-plain : {c i j : ℕ} {k : Bool} → r ≡ Last c i j k → all is_plain (part i j s) ≡ true
+  pub last-plain : {b : Placed} → r ≡ Last b → all is_plain (data_of s b) ≡ true
   unfolding step_view
-  last-plain {c} {i} {j} {k} h = (plain-there (Last c i j k) h).plain.following
+  last-plain {b} h = (plain-there (Last b) h).plain.following
 
-  -- the blocks from there on, at most suc n
-  pub blocks-stray-suc : r ≡ Stray → (n : ℕ) → blocks (suc n) (drop at s) ≡ bad_body
-  unfolding blocks onward step_view
-  blocks-stray-suc h n = rw (seen Stray h)
-
-  pub blocks-last-suc : {c i j : ℕ} {k : Bool} → r ≡ Last c i j k → (n : ℕ) → blocks (suc n) (drop at s) ≡ body (block c (part i j s) k ∷ [])
-  unfolding blocks onward step_view
-  blocks-last-suc {c} {i} {j} {k} h n = rw (seen (Last c i j k) h)
-
-  pub blocks-more-suc : {c i j : ℕ} {k : Bool} {n : ℕ} → r ≡ More c i j k n → (m : ℕ) → blocks (suc m) (drop at s) ≡ prepend (block c (part i j s) k) (blocks m (drop n s))
-  unfolding blocks onward step_view
-  blocks-more-suc {c} {i} {j} {k} {n} h m = rw (seen (More c i j k n) h)
-
-  -- the same of a number that is not 0
+  -- the blocks from there on
   pub blocks-stray : r ≡ Stray → (n : ℕ) → 0 < n → blocks n (drop at s) ≡ bad_body
+  unfolding blocks onward step_view
   blocks-stray h zero p = absurd (omega arith)
-  blocks-stray h (suc n) p = blocks-stray-suc h n
+  blocks-stray h (suc n) p = rw (seen Stray h)
 
-  pub blocks_last : {c i j : ℕ} {k : Bool} → r ≡ Last c i j k → (n : ℕ) → 0 < n → blocks n (drop at s) ≡ body (block c (part i j s) k ∷ [])
+  pub blocks_last : {b : Placed} → r ≡ Last b → (n : ℕ) → 0 < n → blocks n (drop at s) ≡ body (read_back s b ∷ [])
+  unfolding blocks onward step_view
   blocks_last h zero p = absurd (omega arith)
-  blocks_last h (suc n) p = blocks-last-suc h n
+  blocks_last {b} h (suc n) p = rw (seen (Last b) h)
 
-  pub blocks_more : {c i j : ℕ} {k : Bool} {n : ℕ} → r ≡ More c i j k n → (m : ℕ) → 0 < m → blocks m (drop at s) ≡ prepend (block c (part i j s) k) (blocks (m - 1) (drop n s))
+  pub blocks_more : {b : Placed} {n : ℕ} → r ≡ More b n → (m : ℕ) → 0 < m → blocks m (drop at s) ≡ prepend (read_back s b) (blocks (m - 1) (drop n s))
+  unfolding blocks onward step_view
   blocks_more h zero p = absurd (omega arith)
-  blocks_more h (suc m) p = let z : suc m - 1 ≡ m = omega arith in rw z (blocks-more-suc h m)
+  blocks_more {b} {n} h (suc m) p = let z : suc m - 1 ≡ m = omega arith in rw (z, seen (More b n) h)
 
 -- no more blocks may stand there
 pub blocks-none : (l : List ℕ) (n : ℕ) → n ≤ 0 → blocks n l ≡ bad_body

@@ -14,25 +14,6 @@ use Rattle.body.specs.InnerWalking.{left}
 use Rattle.body.specs.InnerTaking.{taken_as, behind_data, taken_at}
 use Rattle.body.proofs.WalkLaws.{left-within}
 
--- ---- what stands behind the data, which end at place to
-
-module _ (s : List ℕ) (to x : ℕ) (e : x ≡ s ! to) where
-  -- no ETX
-  pub behind-none : (x ≡ ETX → ⊥) → to ≡ behind_data s to
-  unfolding behind_data
-  behind-none n = rw (← e, ne_eqb x ETX n)
-
-  module _ (h : x ≡ ETX) (y : ℕ) (f : y ≡ s ! (to + 1)) (t : Bool) (d : t ≡ (y is STX || y is EOT)) where
-    -- ETX alone
-    pub behind-plain : t ≡ true → to + 1 ≡ behind_data s to
-    unfolding behind_data
-    behind-plain k = rw (← e, h, ← f, sym d ∙ k)
-
-    -- ETX and four digits
-    pub behind_sum : t ≡ false → to + 5 ≡ behind_data s to
-    unfolding behind_data
-    behind_sum k = rw (← e, h, ← f, sym d ∙ k)
-
 -- ---- the block whose STX stands at place at
 
 -- its data, which end at place to
@@ -57,7 +38,7 @@ module _ (s : List ℕ) (at to : ℕ) (e : to ≡ at + 2 + length (left s (at + 
       let next : n ≡ behind_data s (at + 2 + length d) = g ∙ ap (behind_data s) e in
       λ i. taken_as (f i) (e i) (sum i) (next i)
 
-pub ruleset takings = (behind-none, behind-plain, behind_sum, take_in, take-made, rules)
+pub ruleset takings = (take_in, take-made, rules)
 
 -- ---- the blocks of a good body
 

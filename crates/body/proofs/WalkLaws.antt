@@ -1,16 +1,16 @@
 -- What holds while a block's data are walked, by strides and byte by byte, and its steps: where they end, and what they add to a sum.
-use Rattle.std.proofs.Common.{◌≡◌, ℕ, zero, suc, ◌+◌, ◌-◌, ◌/◌, ◌%◌, ◌^◌, ◌<◌, ◌≤◌, Bool, true, false, not, List, [], ◌∷◌, ◌++◌, length, take, drop, sym, refl, ap, ◌∙◌, arith, length-append, length-drop, length-take, drop-drop, w64, Fits, rules}
-use borrow.Author.Tests.{not-true, not-false}
-use Rattle.octets.specs.Choice.{front, all, ◌!◌, part}
+use Rattle.std.proofs.Common.{◌≡◌, ℕ, zero, suc, ◌+◌, ◌-◌, ◌/◌, ◌%◌, ◌^◌, ◌<◌, ◌≤◌, Bool, true, false, not, List, [], ◌∷◌, ◌++◌, length, take, drop, sym, refl, ap, ◌∙◌, arith, length-append, length-drop, length-take, drop-drop, w64, Fits, Ok, Err, rules}
+use Rattle.std.specs.Array.{IsFirstChunk}
+use Rattle.octets.proofs.Spots.{tail-whole}
+use Rattle.octets.specs.Choice.{front, all, ◌!◌}
 use Rattle.octets.specs.Bytes.{is_plain}
 use Rattle.octets.proofs.Tests.{by-test, never}
 use Rattle.octets.proofs.SlicesLaws.{plain, not_plain}
 use Rattle.octets.proofs.Places.{front_length, front-split, front-go, front-no, front_out}
 use Rattle.body.specs.Sum.{sum_from}
-use Rattle.body.specs.InnerWalking.{STRIDE, stretched, walked, left, Walks, Near}
-use Rattle.body.specs.declared.sum.Stretch.{Stretch}
+use Rattle.body.specs.InnerWalking.{STRIDE, added_up, walked, left, Walks, Near}
 use Rattle.body.specs.declared.walk.Walked.{Walked}
-use Rattle.body.proofs.SumLaws.{sum-append}
+use Rattle.body.proofs.SumLaws.{added-some, added-none, sum-append}
 
 -- ---- the data that are left at a place
 
@@ -23,33 +23,31 @@ module _ (s : List ℕ) (to : ℕ) where
 
 -- ---- a walk that has come as far as a place
 
-pub walk_start : (s : List ℕ) (from start : ℕ) → from ≤ length s → Walks s from start from start
-walk_start s from start h = record { within = h; ends = refl; same = refl }
+pub walk_start : (s : List ℕ) (start : Walked) → start.to ≤ length s → Walks s start start
+walk_start s start h = record { within = h; same = refl }
 
-module _ {s : List ℕ} {from start to sum : ℕ} (g : Walks s from start to sum) where
-  -- from there on the walk is the same
-  pub walk-rest : (w : Walked) → w ≡ walked to sum (left s to) → w ≡ walked from start (left s from)
-  walk-rest w e = e ∙ (λ i. record { to = g.ends i; sum = g.same i })
+alike : {i j m n : ℕ} → i ≡ j → m ≡ n → ◌≡◌ {A = Walked} (record { to = i; sum = m }) (record { to = j; sum = n })
+alike e f = λ k. record { to = e k; sum = f k }
 
+module _ {s : List ℕ} {start w : Walked} (g : Walks s start w) where
   -- nothing is left
-  walk-done : left s to ≡ [] → record { to = to; sum = sum } ≡ walked from start (left s from)
+  walk-done : left s w.to ≡ [] → w ≡ walked start (left s start.to)
   unfolding sum_from
-  walk-done e = walk-rest (record { to = to; sum = sum }) (rw e (let z : to ≡ to + 0 = omega arith in λ i. record { to = z i; sum = sum }))
+  walk-done e = alike (omega (arith, ap length e)) (sym (ap (sum_from w.sum) e)) ∙ g.same
 
   -- byte by byte
-  pub walk-next : to < length s → 5 ≤ s ! to → (y : ℕ) → y ≡ (sum + s ! to) % 65536 → Walks s from start (to + 1) y
+  pub walk-next : w.to < length s → 5 ≤ s ! w.to → (y : ℕ) → y ≡ (w.sum + s ! w.to) % 65536 → Walks s start (record { to = w.to + 1; sum = y })
   unfolding sum_from
   walk-next h k y q = record {
     within = omega arith;
-    ends = omega (arith, ap length (left-on s to h k), g.ends);
-    same = rw q (ap (sum_from sum) (sym (left-on s to h k)) ∙ g.same);
+    same = alike (omega (arith, ap length (left-on s w.to h k))) (rw q (ap (sum_from w.sum) (sym (left-on s w.to h k)))) ∙ g.same;
   }
 
-  pub walk-stop : to < length s → s ! to < 5 → record { to = to; sum = sum } ≡ walked from start (left s from)
-  walk-stop h k = walk-done (front-no is_plain s to h (not_plain (s ! to) k))
+  pub walk-stop : w.to < length s → s ! w.to < 5 → w ≡ walked start (left s start.to)
+  walk-stop h k = walk-done (front-no is_plain s w.to h (not_plain (s ! w.to) k))
 
-  pub walk-out : length s ≤ to → record { to = to; sum = sum } ≡ walked from start (left s from)
-  walk-out h = walk-done (front_out is_plain s to h)
+  pub walk-out : length s ≤ w.to → w ≡ walked start (left s start.to)
+  walk-out h = walk-done (front_out is_plain s w.to h)
 
 -- a round takes one byte of the data: there are as many rounds as bytes
 pub walk-less : (s : List ℕ) (to : ℕ) → to < length s → 5 ≤ s ! to → length (left s (to + 1)) < length (left s to)
@@ -65,55 +63,70 @@ module _ (p : ℕ → Bool) where
   front-few (suc n) [] a = never a
   front-few (suc n) (x ∷ l) a = by-test (p x) (λ e. let z = front-few n l (rw e at a) in rw e (omega (arith, z))) (λ e. rw e (omega arith))
 
--- sixteen bytes from a place on
-pub stride-fits : (s : List ℕ) (at : ℕ) → length s < 2 ^ 64 → STRIDE ≤ length s - at → Fits w64 (at + STRIDE)
-stride-fits s at l h = record { fits = omega arith }
+-- the bytes from a place on, as the code takes them
+abbrev rest : List ℕ → ℕ → List ℕ
+rest s to = take (length s - to) (drop to s)
 
-pub stride-part : (s : List ℕ) (at start : ℕ) (t : Stretch) → t ≡ stretched start (part at (at + STRIDE) s) → t ≡ stretched start (take STRIDE (drop at s))
-stride-part s at start t e = let z : at + STRIDE - at ≡ STRIDE = omega arith in rw z at e
+rest-is : (s : List ℕ) (to : ℕ) → rest s to ≡ drop to s
+rest-is s to = tail-whole s to
 
-module _ {s : List ℕ} {from start to sum : ℕ} (g : Walks s from start to sum) where
+length-rest : (s : List ℕ) (to : ℕ) → length (rest s to) ≡ length s - to
+length-rest s to = ap length (rest-is s to) ∙ length-drop to s
+
+module _ {s : List ℕ} {start w : Walked} (g : Walks s start w) where
   -- fewer than sixteen bytes are left of all
-  pub stride-out : length s - to < STRIDE → Near s from start (record { to = to; sum = sum })
-  stride-out h = record { walks = g; few = omega (arith, left-within s to) }
+  pub stride-out : length (rest s w.to) < STRIDE → Near s start w
+  stride-out h = record { walks = g; few = omega (arith, left-within s w.to, length-rest s w.to) }
 
-  module _ (h : STRIDE ≤ length s - to) (t : Stretch) (e : t ≡ stretched sum (take STRIDE (drop to s))) where
-    tested : all is_plain (take STRIDE (drop to s)) ≡ t.plain
-    tested = sym (ap (λ x. x.plain) e)
+  module _ (part : List ℕ) (h : IsFirstChunk (rest s w.to) part STRIDE) where
+    whole : STRIDE ≤ length s - w.to
+    whole = omega (arith, h.enough, length-rest s w.to)
 
-    pub stride-stop : not t.plain ≡ true → Near s from start (record { to = to; sum = sum })
-    stride-stop k = record { walks = g; few = front-few is_plain STRIDE (drop to s) (tested ∙ not-true t.plain k) }
+    sixteen : part ≡ take STRIDE (drop w.to s)
+    sixteen = h.same ∙ ap (take STRIDE) (rest-is s w.to)
 
-    taken : not t.plain ≡ false → left s to ≡ take STRIDE (drop to s) ++ left s (to + STRIDE)
-    taken k =
-        front-split is_plain STRIDE (drop to s) (tested ∙ not-false t.plain k) ∙ ap (λ l. take STRIDE (drop to s) ++ front is_plain l) (drop-drop STRIDE to s)
+    pub stride-stop : (x : ℕ) → added_up w.sum part ≡ Err x → Near s start w
+    stride-stop x k =
+        record { walks = g; few = front-few is_plain STRIDE (drop w.to s) (rw sixteen at (added-none part w.sum x k)) }
 
-    shorter : not t.plain ≡ false → length (left s to) ≡ STRIDE + length (left s (to + STRIDE))
-    shorter k = omega (arith, ap length (taken k), length-append (take STRIDE (drop to s)) (left s (to + STRIDE)), length-take STRIDE (drop to s), length-drop to s)
+    module _ (sum : ℕ) (k : added_up w.sum part ≡ Ok sum) where
+      abbrev on : List ℕ
+      on = left s (w.to + STRIDE)
 
-    pub stride-next : not t.plain ≡ false → Walks s from start (to + STRIDE) t.sum
-    stride-next k = record {
-      within = omega arith;
-      ends = omega (arith, shorter k, g.ends);
-      same = rw (ap (λ x. x.sum) e) (sym (sum-append sum (take STRIDE (drop to s)) (left s (to + STRIDE))) ∙ ap (sum_from sum) (sym (taken k)) ∙ g.same);
-    }
+      taken : left s w.to ≡ part ++ on
+      taken =
+          front-split is_plain STRIDE (drop w.to s) (rw sixteen at (added-some part w.sum sum k).0)
+          ∙ ap (λ l. take STRIDE (drop w.to s) ++ front is_plain l) (drop-drop STRIDE w.to s)
+          ∙ ap (λ l. l ++ on) (sym sixteen)
 
-    -- a round takes sixteen bytes of the data: there are as many rounds as whole sixteens
-    pub stride-less : not t.plain ≡ false → length (left s (to + STRIDE)) / STRIDE < length (left s to) / STRIDE
-    stride-less k = omega (arith, shorter k)
+      shorter : length (left s w.to) ≡ STRIDE + length on
+      shorter = omega (arith, whole, ap length taken, length-append part on, ap length sixteen, length-take STRIDE (drop w.to s), length-drop w.to s)
 
-module _ (s : List ℕ) (from start : ℕ) (w : Walked) (g : Near s from start w) where
+      pub stride-next : Walks s start (record { to = w.to + STRIDE; sum = sum })
+      stride-next = record {
+        within = omega (arith, whole);
+        same =
+            alike (omega (arith, shorter))
+            (rw (added-some part w.sum sum k).1 (sym (sum-append w.sum part on) ∙ ap (sum_from w.sum) (sym taken)))
+            ∙ g.same;
+      }
+
+      -- a round takes sixteen bytes of the data: there are as many rounds as whole sixteens
+      pub stride-less : length on / STRIDE < length (left s w.to) / STRIDE
+      stride-less = omega (arith, shorter)
+
+module _ (s : List ℕ) (start w : Walked) (g : Near s start w) where
   pub near_within : w.to ≤ length s
   near_within = g.walks.within
 
   pub near-few : length (left s w.to) < STRIDE
   near-few = g.few
 
-  pub near-rest : (x : Walked) → x ≡ walked w.to w.sum (left s w.to) → x ≡ walked from start (left s from)
-  near-rest x e = walk-rest g.walks x e
+  pub near-rest : (x : Walked) → x ≡ walked w (left s w.to) → x ≡ walked start (left s start.to)
+  near-rest x e = e ∙ g.walks.same
 
 pub ruleset walking = (walk_start, walk-next, walk-stop, walk-out, walk-less, rules)
 
-pub ruleset striding = (stride-fits, stride-part, walk_start, stride-out, stride-stop, stride-next, stride-less, rules)
+pub ruleset striding = (stride-out, stride-stop, stride-next, stride-less, rules)
 
 pub ruleset nearing = (near_within, near-few, near-rest, rules)

@@ -9,8 +9,8 @@ use Rattle.body.specs.declared.reader.Reader.{Reader}
 -- the place behind what was found in a frame that ends at the second argument: the next block's, or the end where there is none
 unfoldable pub place_behind : BlockStep → ℕ → ℕ
 place_behind Stray end = end
-place_behind (More c i j r n) end = n
-place_behind (Last c i j r) end = end
+place_behind (More b n) end = n
+place_behind (Last b) end = end
 
 -- where a reader of s that stands at a place is left
 unfoldable pub place_after : List ℕ → ℕ → ℕ

@@ -8,22 +8,19 @@ pub mod surveying;
 pub mod taking;
 pub mod walk;
 
-// What stands at a place of a frame: no block; a block with another one behind it; or the last block.
-// Its command byte, where its data start and end, whether its sum is right, and where the next block starts.
+// A block by places: where its data start and end, its command byte, and whether its sum is right.
+#[derive(Clone, Copy)]
+pub struct Placed {
+    pub from: usize,
+    pub to: usize,
+    pub command: u8,
+    pub right: bool,
+}
+
+// What stands at a place of a frame: no block; a block, with the place where the next one starts; or the last block.
 #[derive(Clone, Copy)]
 pub enum BlockStep {
     Stray,
-    More {
-        command: u8,
-        from: usize,
-        to: usize,
-        right: bool,
-        next: usize,
-    },
-    Last {
-        command: u8,
-        from: usize,
-        to: usize,
-        right: bool,
-    },
+    More { block: Placed, next: usize },
+    Last { block: Placed },
 }

@@ -15,42 +15,31 @@ pub struct Reader<'a> {
 }
 
 // The place behind what was found: that of the next block, or the frame's end where there is none.
+#[tactic(auto, unfolding(crate::specs::Readers::place_behind))]
 fn place_after(b: BlockStep, end: usize) -> usize
     ensures { result ≡ place_behind b end }
 {
     match b {
-        BlockStep::Stray => end,
-        BlockStep::More {
-            command: _,
-            from: _,
-            to: _,
-            right: _,
-            next,
-        } => next,
-        BlockStep::Last {
-            command: _,
-            from: _,
-            to: _,
-            right: _,
-        } => end,
+        BlockStep::More { block: _, next } => next,
+        BlockStep::Stray | BlockStep::Last { block: _ } => end,
     }
 }
 
 // A reader at a place of a frame.
-pub fn open_at<'a>(frame: &'a [u8], at: usize) -> Reader<'a>
+// Stays: document 01 names the reader, and docs/PROMISES.md these calls of it, so they are no methods.
+pub fn open_at(frame: &[u8], at: usize) -> Reader<'_>
     ensures { Opened frame.entry at result }
 {
     Reader { frame, at }
 }
 
 // The block where the reader stands; it is left at the next one, or at the end of the frame where there is none.
-pub fn step<'s, 'a>(r: &'s mut Reader<'a>) -> BlockStep
+#[tactic(auto, unfolding(crate::specs::Readers::place_after))]
+pub fn step(r: &mut Reader) -> BlockStep
     ensures { Stepped r.old r.new result }
 {
-    let frame = r.frame;
-    let at = r.at;
-    let found = block_at(frame, at);
-    r.at = place_after(found, frame.len());
+    let found = block_at(r.frame, r.at);
+    r.at = place_after(found, r.frame.len());
     found
 }
 

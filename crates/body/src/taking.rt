@@ -17,6 +17,7 @@ pub struct Taken {
 }
 
 // Behind ETX and four digits, behind ETX, or where the data end.
+#[tactic(auto, unfolding(crate::specs::InnerTaking::behind_data))]
 fn behind_data(s: &[u8], to: usize) -> usize
     requires { to ≤ length s.now }
     ensures { result ≡ behind_data s.now to }
@@ -31,6 +32,8 @@ fn behind_data(s: &[u8], to: usize) -> usize
 }
 
 // The block whose STX stands at a place. Its digits are not looked at: who judged the body has.
+// Stays: `walk` would search and add up in one look, but called from here too it cost every reading 1 to 10 percent more instructions with the older kit (docs/COST.md).
+#[tactic(auto, using(crate::proofs::TakingLaws::takings))]
 pub fn take_at(s: &[u8], at: usize) -> Taken
     requires { at + 2 ≤ length s.now }
     ensures { result ≡ taken_at s.now at }

@@ -1,103 +1,118 @@
 -- The command by its byte, and the sum before it.
 use Prim.Native.Nat.{ℕ}
-use mathlib.Core.Path.{◌≡◌, refl, sym, ap, ◌∙◌}
-use mathlib.Core.Bool.{Bool, true, false, not, ◌&&◌, ◌||◌}
+use mathlib.Core.Path.{◌≡◌, refl, ap, ◌∙◌}
+use mathlib.Core.Bool.{Bool, true, false, not}
 use mathlib.Core.List.{List}
 use borrow.Author.Rules.{rules}
-use borrow.Author.Tests.{eqb-true, ne_eqb, not-true, not-false}
+use borrow.Author.Tests.{ne_eqb, not-true, not-false}
+use Rattle.std.specs.Prelude.{Result, Ok, Err}
+use Rattle.std.specs.Result.{result_and}
 use Rattle.octets.specs.Choice.{◌is◌}
 use Rattle.octets.specs.Bytes.{A, B, E, F, G, H}
-use Rattle.octets.proofs.Tests.{by-test, never}
+use Rattle.octets.proofs.Tests.{by-test}
 use Rattle.body.specs.Body.{block}
 use Rattle.board.specs.Files.{TEXT, STRING}
-use Rattle.board.specs.Board.{Board, with_settings, with_memory}
+use Rattle.board.specs.Board.{Board, board, with_memory}
+use Rattle.board.specs.Soundness.{sound}
+use Rattle.board.specs.declared.Settings.{Settings}
 use Rattle.effects.specs.Effects.{Effect, refuse, change}
-use Rattle.effects.specs.InnerLeaving.{done_as, left_as, leaving}
+use Rattle.effects.specs.InnerLeaving.{number, done_as, done_by, Left, left_as, leaving}
 use Rattle.effects.specs.declared.Changed.{Changed}
 use Rattle.effects.specs.declared.Done.{Done}
+use Rattle.effects.specs.declared.Refusal.{Refusal}
+use Rattle.effects.specs.declared.Refusal.TheVariants.{WrongChecksum, Unknown}
 use Rattle.effects.proofs.Outcomes.{left-quiet}
 use Rattle.special.specs.Special.{write_special, read_special}
 use Rattle.commands.specs.Blocks.{command, do_block}
-use Rattle.commands.specs.InnerDoing.{is_special, writing, reading, filing, filed_as, Puts, Files}
-use Rattle.commands.specs.declared.Filed.{Filed}
-
--- ---- E and F
-
-pub special-told : (code : ℕ) (right : Bool) → (right && (code is E || code is F)) ≡ is_special code right
-unfolding is_special
-special-told code right = refl
-
-module _ (b : Board) (code : ℕ) (text out : List ℕ) where
-  pub get-special : code ≡ F → (r : Done) (m out' : List ℕ) → left_as r m out' ≡ leaving out (read_special b text) →
-      left_as r m out' ≡ leaving out (command b code text)
-  unfolding command
-  get-special e r m out' q = rw e q
-
-  -- a is the board, its memory as it was left
-  pub set-special : (code ≡ F → ⊥) → is_special code true ≡ true → (c : Changed) (a : Board) → change a c ≡ write_special b text →
-      (m : List ℕ) → m ≡ a.memory → left_as (done_as c.number c.settings 0) m out ≡ leaving out (command b code text)
-  unfolding command is_special
-  set-special n t c a q m k =
-      rw k
-      (left-quiet out _ c.number (with_settings a c.settings)
-      (q ∙ rw (eqb-true code E (only (code is E) (ne_eqb code F n) t))))
-    where
-      only : (x : Bool) {y : Bool} → y ≡ false → (x || y) ≡ true → x ≡ true
-      only true e f = refl
-      only false e f = never (sym f ∙ e)
-
-pub ruleset special-blocks = (special-told, get-special, set-special, rules)
+use Rattle.commands.specs.InnerDoing.{OfBoard, writing, reading, filing, Puts, Files}
 
 -- ---- any other block; m' and out' are what is left
 
-module _ (p m : List ℕ) (code : ℕ) (text out : List ℕ) (right : Bool) where
+module _ (p m : List ℕ) (code : ℕ) (text out : List ℕ) where
   -- by an effect on each board
-  as-answered : (e : Board → Effect) → ((b : Board) → e b ≡ filing (block code text right) b) → (r : Filed) (m' out' : List ℕ) →
-      Files p m out e r m' out' → Files p m out (filing (block code text right)) r m' out'
+  as-answered : (e : Board → Effect) → ((b : Board) → e b ≡ filing code text b) → (r : Result ℕ Refusal) (m' out' : List ℕ) →
+      Files p m out e r m' out' → Files p m out (filing code text) r m' out'
   as-answered e q r m' out' x = record { on = λ b i. x.on b i ∙ ap (leaving out) (q b) }
 
-  as-put : (e : Board → Effect) → ((b : Board) → e b ≡ filing (block code text right) b) → (n : ℕ) (m' : List ℕ) →
-      Puts p m e n m' → Files p m out (filing (block code text right)) (filed_as n 0) m' out
-  as-put e q n m' x = record { on = λ b i. left-quiet out _ n (with_memory b m') (x.on b i ∙ q b) }
+  -- a write replies nothing
+  as-put : (e : Board → Effect) → ((b : Board) → e b ≡ filing code text b) → (r : Result (Unit {0}) Refusal) (m' : List ℕ) →
+      Puts p m e r m' → Files p m out (filing code text) (result_and r (Ok 0)) m' out
+  as-put e q (Ok x) m' y = record { on = λ b i. left-quiet out _ 0 (with_memory b m') (y.on b i ∙ q b) }
+  as-put e q (Err x) m' y = record { on = λ b i. left-quiet out _ (number x) (with_memory b m') (y.on b i ∙ q b) }
 
-  as-refused : (n : ℕ) → ((b : Board) → refuse n b ≡ filing (block code text right) b) →
-      Files p m out (filing (block code text right)) (filed_as n 0) m out
-  as-refused n q = record { on = λ b i. rw (← i.memory) (left-quiet out _ n b (q b)) }
+  as-refused : (x : Refusal) → ((b : Board) → refuse (number x) b ≡ filing code text b) →
+      Files p m out (filing code text) (Err x) m out
+  as-refused x q = record { on = λ b i. rw (← i.memory) (left-quiet out _ (number x) b (q b)) }
 
-  -- with a right sum
+  pub write-text : code ≡ A → (r : Result (Unit {0}) Refusal) (m' : List ℕ) → Puts p m (writing TEXT text) r m' →
+      Files p m out (filing code text) (result_and r (Ok 0)) m' out
+  unfolding filing command writing
+  write-text e = as-put (writing TEXT text) (λ b. rw e)
+
+  pub write-string : code ≡ G → (r : Result (Unit {0}) Refusal) (m' : List ℕ) → Puts p m (writing STRING text) r m' →
+      Files p m out (filing code text) (result_and r (Ok 0)) m' out
+  unfolding filing command writing
+  write-string e = as-put (writing STRING text) (λ b. rw e)
+
+  pub read-text : code ≡ B → (r : Result ℕ Refusal) (out' : List ℕ) → Files p m out (reading TEXT A text) r m out' →
+      Files p m out (filing code text) r m out'
+  unfolding filing command reading
+  read-text e r out' = as-answered (reading TEXT A text) (λ b. rw e) r m out'
+
+  pub read-string : code ≡ H → (r : Result ℕ Refusal) (out' : List ℕ) → Files p m out (reading STRING G text) r m out' →
+      Files p m out (filing code text) r m out'
+  unfolding filing command reading
+  read-string e r out' = as-answered (reading STRING G text) (λ b. rw e) r m out'
+
+  pub unknown : (code ≡ A → ⊥) → (code ≡ G → ⊥) → (code ≡ B → ⊥) → (code ≡ H → ⊥) →
+      Files p m out (filing code text) (Err Unknown) m out
+  unfolding filing command
+  unknown a g b h =
+      as-refused Unknown
+      (λ x.
+      rw (ne_eqb code A a, ne_eqb code G g, ne_eqb code B b, ne_eqb code H h)
+      (by-test (code is E) (λ e. simp e) (λ e. by-test (code is F) (λ f. simp (e, f)) (λ f. simp (e, f)))))
+
+pub ruleset choosing = (write-text, write-string, read-text, read-string, unknown, rules)
+
+-- ---- a block; s' is what it leaves of the settings
+
+module _ (s : Settings) (m : List ℕ) (code : ℕ) (text out : List ℕ) (right : Bool) where
+  abbrev b : Board
+  b = board s m
+
+  pub sum-wrong : not right ≡ true → (r : Done) → r ≡ done_by (Err WrongChecksum) → left_as r s m out ≡ leaving out (do_block b (block code text right))
+  unfolding do_block
+  sum-wrong w r e = rw e (left-quiet out _ 20 b (rw (not-true right w)))
+
+  pub indexed : sound b ≡ true → OfBoard s.places m
+  indexed h = record { some = b; indexed = record { index = refl; memory = refl; sound = h } }
+
   module _ (w : not right ≡ false) where
-    pub write-text : code ≡ A → (n : ℕ) (m' : List ℕ) → Puts p m (writing TEXT text) n m' →
-        Files p m out (filing (block code text right)) (filed_as n 0) m' out
-    unfolding filing is_special do_block command writing
-    write-text e = as-put (writing TEXT text) (λ b. rw (not-false right w, e))
+    by-command : {x : Left} → x ≡ leaving out (command b code text) → x ≡ leaving out (do_block b (block code text right))
+    unfolding do_block
+    by-command e = e ∙ rw (not-false right w)
 
-    pub write-string : code ≡ G → (n : ℕ) (m' : List ℕ) → Puts p m (writing STRING text) n m' →
-        Files p m out (filing (block code text right)) (filed_as n 0) m' out
-    unfolding filing is_special do_block command writing
-    write-string e = as-put (writing STRING text) (λ b. rw (not-false right w, e))
+    pub set-special : code ≡ E → (c : Changed) (m' : List ℕ) → change (board s m') c ≡ write_special b text →
+        left_as (done_as c.number 0) c.settings m' out ≡ leaving out (do_block b (block code text right))
+    unfolding command
+    set-special e c m' q = by-command (left-quiet out _ c.number (board c.settings m') (q ∙ rw e))
 
-    pub read-text : code ≡ B → (r : Filed) (out' : List ℕ) → Files p m out (reading TEXT A text) r m out' →
-        Files p m out (filing (block code text right)) r m out'
-    unfolding filing is_special do_block command reading
-    read-text e r out' = as-answered (reading TEXT A text) (λ b. rw (not-false right w, e)) r m out'
+    pub get-special : code ≡ F → (x : Result ℕ Refusal) (s' : Settings) (out' : List ℕ) → left_as (done_by x) s' m out' ≡ leaving out (read_special b text) →
+        (r : Done) → r ≡ done_by x → left_as r s' m out' ≡ leaving out (do_block b (block code text right))
+    unfolding command
+    get-special e x s' out' q r y =
+        let z : read_special b text ≡ command b code text = rw e in
+        let v : left_as r s' m out' ≡ leaving out (read_special b text) = rw y q in
+        by-command (v ∙ ap (leaving out) z)
 
-    pub read-string : code ≡ H → (r : Filed) (out' : List ℕ) → Files p m out (reading STRING G text) r m out' →
-        Files p m out (filing (block code text right)) r m out'
-    unfolding filing is_special do_block command reading
-    read-string e r out' = as-answered (reading STRING G text) (λ b. rw (not-false right w, e)) r m out'
+    pub filed : (code ≡ E → ⊥) → (code ≡ F → ⊥) → sound b ≡ true → (x : Result ℕ Refusal) (m' out' : List ℕ) → Files s.places m out (filing code text) x m' out' →
+        (r : Done) → r ≡ done_by x → left_as r s m' out' ≡ leaving out (do_block b (block code text right))
+    unfolding filing
+    filed e f h x m' out' q r y =
+        let z : filing code text b ≡ command b code text = rw (ne_eqb code E e, ne_eqb code F f) in
+        let v : left_as r s m' out' ≡ leaving out (filing code text b) =
+        rw y (q.on b (record { index = refl; memory = refl; sound = h })) in
+        by-command (v ∙ ap (leaving out) z)
 
-    pub unknown : (code ≡ A → ⊥) → (code ≡ G → ⊥) → (code ≡ B → ⊥) → (code ≡ H → ⊥) →
-        Files p m out (filing (block code text right)) (filed_as 21 0) m out
-    unfolding filing is_special do_block command
-    unknown a g b h =
-        as-refused 21
-        (λ x.
-        rw (not-false right w, ne_eqb code A a, ne_eqb code G g, ne_eqb code B b, ne_eqb code H h)
-        (by-test (code is E) (λ e. simp e) (λ e. by-test (code is F) (λ f. simp (e, f)) (λ f. simp (e, f)))))
-
-  -- with a wrong one
-  pub sum-wrong : not right ≡ true → Files p m out (filing (block code text right)) (filed_as 20 0) m out
-  unfolding filing is_special do_block
-  sum-wrong w = as-refused 20 (λ b. rw (not-true right w))
-
-pub ruleset choosing = (write-text, write-string, read-text, read-string, unknown, sum-wrong, rules)
+pub ruleset doing = (sum-wrong, indexed, set-special, get-special, filed, rules)

@@ -1,26 +1,21 @@
 -- For contracts of inner functions only: what the commands need and leave. A, G, B and H neither take nor hand back the settings: what they
 -- answer and leave is their effect on every sound board of that index and that memory.
-use Rattle.std.specs.Prelude.{ℕ, ◌+◌, ◌≤◌, ◌≡◌, Bool, true, ◌&&◌, ◌||◌, List, [], length, if◌then◌else◌}
+use Rattle.std.specs.Prelude.{ℕ, ◌+◌, ◌≤◌, ◌≡◌, true, ◌||◌, List, [], length, Result, if◌then◌else◌}
+use Rattle.std.specs.Result.{result_unwrap_or}
 use Rattle.octets.specs.Choice.{◌is◌}
 use Rattle.octets.specs.Bytes.{E, F}
-use Rattle.body.specs.Body.{Block}
-use Rattle.board.specs.Index.{ENTRIES}
 use Rattle.board.specs.Board.{Board, with_memory}
 use Rattle.board.specs.Soundness.{sound}
 use Rattle.effects.specs.Effects.{Effect, effect, refuse}
-use Rattle.effects.specs.InnerLeaving.{left, leaving}
+use Rattle.effects.specs.InnerLeaving.{number_in, left, leaving}
+use Rattle.effects.specs.declared.Refusal.{Refusal}
 use Rattle.commands.specs.Commands.{find_on, put_message, write_file, get_content, read_file}
-use Rattle.commands.specs.Blocks.{do_block}
-use Rattle.commands.specs.declared.Filed.{Filed}
+use Rattle.commands.specs.Blocks.{command}
 
 -- a message fits a content, and that content memory
 pub record Room (m : List ℕ) (start size : ℕ) (message : List ℕ) : Type 0 where
   pub fits : length message ≤ size
   pub inside : start + size ≤ length m
-
--- a block that sets or tells settings: E or F, its sum right
-unfoldable pub is_special : ℕ → Bool → Bool
-is_special c right = right && (c is E || c is F)
 
 -- a sound board of this index and this memory
 pub record Indexed (p m : List ℕ) (b : Board) : Type 0 where
@@ -30,7 +25,6 @@ pub record Indexed (p m : List ℕ) (b : Board) : Type 0 where
 
 -- there is one
 pub record OfBoard (p m : List ℕ) : Type 0 where
-  pub long : length p ≡ ENTRIES
   pub some : Board
   pub indexed : Indexed p m some
 
@@ -47,18 +41,14 @@ getting code label kind b = get_content code b label (find_on b label kind)
 unfoldable pub reading : ℕ → ℕ → List ℕ → Board → Effect
 reading kind code text b = read_file kind code b text
 
--- any block but E and F, which are none of these commands: 21
-unfoldable pub filing : Block → Board → Effect
-filing k b = if is_special k.command k.right then refuse 21 b else do_block b k
+-- any command but E and F, which are none of these: 21
+unfoldable pub filing : ℕ → List ℕ → Board → Effect
+filing code text b = if code is E || code is F then refuse 21 b else command b code text
 
--- what is answered: a number and a reply's length
-abbrev pub filed_as : ℕ → ℕ → Filed
-filed_as n k = record { number = n; length = k }
-
--- a write's number, and memory after it
-pub record Puts (p m : List ℕ) (e : Board → Effect) (n : ℕ) (m' : List ℕ) : Type 0 where
-  pub on : (b : Board) → Indexed p m b → effect n (with_memory b m') [] ≡ e b
+-- a write's answer, and memory after it
+pub record Puts (p m : List ℕ) (e : Board → Effect) (r : Result (Unit {0}) Refusal) (m' : List ℕ) : Type 0 where
+  pub on : (b : Board) → Indexed p m b → effect (number_in r) (with_memory b m') [] ≡ e b
 
 -- what a command answers that may reply, and memory and reply buffer after it
-pub record Files (p m o : List ℕ) (e : Board → Effect) (r : Filed) (m' o' : List ℕ) : Type 0 where
-  pub on : (b : Board) → Indexed p m b → left r.number (with_memory b m') o' r.length ≡ leaving o (e b)
+pub record Files (p m o : List ℕ) (e : Board → Effect) (r : Result ℕ Refusal) (m' o' : List ℕ) : Type 0 where
+  pub on : (b : Board) → Indexed p m b → left (number_in r) (with_memory b m') o' (result_unwrap_or r 0) ≡ leaving o (e b)

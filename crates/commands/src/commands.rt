@@ -7,11 +7,10 @@ ghost use Rattle.effects.specs.InnerLeaving.{Told};
 ghost use Rattle.commands.specs.Commands.{holding};
 ghost use Rattle.commands.specs.InnerDoing.{Room, OfBoard, putting, writing, getting, reading, Puts, Files};
 
-use crate::Filed;
-use board::Found;
-use board::index::look_up;
+use board::Content;
+use board::index::{LABELS, look_up};
 use buffers::copying::{copy_at, zero_at};
-use effects::numbers::{MALFORMED, NO_FILE, TOO_LONG};
+use effects::Refusal;
 use effects::reply::{DATA, reply};
 use octets::slices::plain_run;
 
@@ -25,32 +24,41 @@ fn hold(m: &mut [u8], start: usize, size: usize, message: &[u8])
     zero_at(m, start + n, size - n);
 }
 
-// 23, the message put, or 24: the number.
-fn put_message(places: &[u16], m: &mut [u8], label: u8, kind: u8, message: &[u8]) -> u8
+// 23, the message put, or 24.
+fn put_message(
+    places: &[u16; LABELS],
+    m: &mut [u8],
+    label: u8,
+    kind: u8,
+    message: &[u8],
+) -> Result<(), Refusal>
     requires { OfBoard places.now m.old }
     ensures { Puts places.now m.old (putting label kind message.now) result m.new }
 {
-    match look_up(places, m, label, kind) {
-        Found::Nothing => NO_FILE,
-        Found::At(start, size) => {
-            if message.len() <= size {
-                hold(m, start, size, message);
-                return 0;
-            }
-            TOO_LONG
-        }
+    let Some(Content { start, size }) = look_up(places, m, label, kind) else {
+        return Err(Refusal::NoFile);
+    };
+    if message.len() <= size {
+        hold(m, start, size, message);
+        return Ok(());
     }
+    Err(Refusal::TooLong)
 }
 
 // "A, G: label and message, which may be empty."
-pub fn write_file(places: &[u16], m: &mut [u8], kind: u8, text: &[u8]) -> u8
+pub fn write_file(
+    places: &[u16; LABELS],
+    m: &mut [u8],
+    kind: u8,
+    text: &[u8],
+) -> Result<(), Refusal>
     requires { OfBoard places.now m.old }
     ensures { Puts places.now m.old (writing kind text.now) result m.new }
 {
-    if text.len() == 0 {
-        return MALFORMED;
+    match text {
+        [] => Err(Refusal::Malformed),
+        [label, message @ ..] => put_message(places, m, *label, kind, message),
     }
-    put_message(places, m, text[0], kind, &text[1..])
 }
 
 // A content without its zeros, put where a reply's data stand.
@@ -64,36 +72,44 @@ fn tell_content(content: &[u8], out: &mut [u8]) -> usize
 }
 
 // 23, or the reply with the content.
-fn get_content(places: &[u16], m: &[u8], label: u8, kind: u8, code: u8, out: &mut [u8]) -> Filed
+// Stays: index, memory and reply buffer are lent apart by the run, here, in read_file and in do_block; a struct of them would be made for
+// each call and opened here, so three ask for room in the buffer and for the index of a board.
+fn get_content(
+    places: &[u16; LABELS],
+    m: &[u8],
+    label: u8,
+    kind: u8,
+    code: u8,
+    out: &mut [u8],
+) -> Result<usize, Refusal>
     requires of_board { OfBoard places.now m.now }
     requires m_in_bounds { reply_room m.now ≤ length out.old }
     ensures { Files places.now m.now out.old (getting code label kind) result m.now out.new }
 {
-    match look_up(places, m, label, kind) {
-        Found::Nothing => Filed {
-            number: NO_FILE,
-            length: 0,
-        },
-        Found::At(start, size) => {
-            let end = start + size;
-            let n = tell_content(&m[start..end], out);
-            let length = reply(out, code, label, n);
-            Filed { number: 0, length }
-        }
-    }
+    let Some(Content { start, size }) = look_up(places, m, label, kind) else {
+        return Err(Refusal::NoFile);
+    };
+    let end = start + size;
+    let n = tell_content(&m[start..end], out);
+    let length = reply(out, code, label, n);
+    Ok(length)
 }
 
 // "B, H: label alone. The reply carries the content without its zeros."
-pub fn read_file(places: &[u16], m: &[u8], kind: u8, code: u8, text: &[u8], out: &mut [u8]) -> Filed
+pub fn read_file(
+    places: &[u16; LABELS],
+    m: &[u8],
+    kind: u8,
+    code: u8,
+    text: &[u8],
+    out: &mut [u8],
+) -> Result<usize, Refusal>
     requires of_board { OfBoard places.now m.now }
     requires m_in_bounds { reply_room m.now ≤ length out.old }
     ensures { Files places.now m.now out.old (reading kind code text.now) result m.now out.new }
 {
-    if text.len() != 1 {
-        return Filed {
-            number: MALFORMED,
-            length: 0,
-        };
+    match text {
+        [label] => get_content(places, m, *label, kind, code, out),
+        _ => Err(Refusal::Malformed),
     }
-    get_content(places, m, text[0], kind, code, out)
 }

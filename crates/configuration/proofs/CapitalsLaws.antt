@@ -53,10 +53,10 @@ module _ {d o r : List ℕ} {i : ℕ} (g : Filling d o r i) where
   so-long : length (take i (list_capitals d)) ≡ i
   so-long = length-take-le i (list_capitals d) (rw (capitals-length 0 d) g.few)
 
-  pub fill-long : length r ≡ length o
+  fill-long : length r ≡ length o
   fill-long = ap length g.part ∙ length-overlay o (take i (list_capitals d)) (omega (arith, so-long, g.room, g.few))
 
-  pub fill-room : i < length d → i < length r
+  fill-room : i < length d → i < length r
   fill-room h = omega (arith, fill-long, g.room)
 
   pub fill_on : i < length d → (b : ℕ) → b ≡ list_capitals d ! i → Filling d o (set r i b) (i + 1)
@@ -72,7 +72,7 @@ module _ {d o r : List ℕ} {i : ℕ} (g : Filling d o r i) where
   pub fill_end : length d ≤ i → r ≡ overlay o (list_capitals d)
   fill_end h = g.part ∙ ap (overlay o) (take_all i (list_capitals d) (rw (capitals-length 0 d) h))
 
-pub ruleset filled = (byte-first, byte-digit, fill_start, fill-long, fill-room, fill_on, fill_end, rules)
+pub ruleset filled = (byte-first, byte-digit, fill_start, fill_on, fill_end, rules)
 
 -- ---- 64 records are 704 bytes
 

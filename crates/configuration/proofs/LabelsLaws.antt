@@ -1,91 +1,44 @@
--- Labels of a list's records: what holds while they are gone along, at place at, with so many left.
-use Prim.Native.Nat.{ℕ, zero, suc, ◌+◌, ◌-◌, ◌*◌, ◌<◌, ◌≤◌}
-use mathlib.Core.Path.{◌≡◌, refl, sym, ◌∙◌}
-use mathlib.Core.Bool.{Bool, true, false, not, ◌&&◌}
+-- Labels of records: what holds while records are gone along, the first of those that are left at a time.
+use Prim.Native.Nat.{ℕ}
+use mathlib.Core.Path.{◌≡◌, refl, sym, ap, ◌∙◌}
+use mathlib.Core.Bool.{Bool, true, false, not, ◌&&◌, ◌||◌}
 use mathlib.Core.List.{List, [], ◌∷◌}
 use native.Mathlib.Omega.{arith}
 use borrow.Author.Rules.{rules}
-use borrow.Author.Tests.{eq-eqb, ne_eqb}
-use lib.ListN.{length, drop}
-use lib.Seq.{drop-drop}
-use Rattle.octets.specs.Choice.{◌!◌, among}
-use Rattle.octets.proofs.Spots.{head_at}
-use Rattle.octets.proofs.Tests.{suc-less-one}
+use lib.ListN.{length}
+use Rattle.std.specs.List.{list_any}
+use Rattle.octets.specs.Choice.{◌is◌, ◌!◌, among}
 use Rattle.board.specs.Files.{distinct}
-use Rattle.configuration.specs.Records.{labels_in}
+use Rattle.configuration.specs.InnerFiling.{labels_of}
 
-labels-step : (d : List ℕ) (at n : ℕ) → 0 < n → labels_in n (drop at d) ≡ d ! at ∷ labels_in (n - 1) (drop (at + 11) d)
-unfolding labels_in
-labels-step d at zero p = absurd (omega arith)
-labels-step d at (suc n) p = rw (suc-less-one n, head_at d at, drop-drop 11 at d)
+-- a label among those
+any-label : (label : ℕ) (rs : List (List ℕ)) → list_any (λ r. r ! 0 is label) rs ≡ among label (labels_of rs)
+unfolding among labels_of
+any-label label [] = refl
+any-label label (r ∷ rs) = ap (λ (t : Bool). r ! 0 is label || t) (any-label label rs)
 
-labels-none : (d : List ℕ) (at n : ℕ) → n ≤ 0 → labels_in n (drop at d) ≡ []
-unfolding labels_in
-labels-none d at zero p = refl
-labels-none d at (suc n) p = absurd (omega arith)
+-- whether the labels of those that are left are distinct, as those of all are
+pub record Parting (all left : List (List ℕ)) : Type 0 where
+  pub same : distinct (labels_of left) ≡ distinct (labels_of all)
 
--- ---- a label among those
+module _ {all left : List (List ℕ)} (g : Parting all left) where
+  pub part_end : length left ≡ 0 → true ≡ distinct (labels_of all)
+  unfolding distinct labels_of
+  part_end e = go left e ∙ g.same
+    where
+      go : (l : List (List ℕ)) → length l ≡ 0 → true ≡ distinct (labels_of l)
+      go [] z = refl
+      go (r ∷ l) z = absurd (omega arith)
 
-pub record Asking (d : List ℕ) (from n label at left : ℕ) : Type 0 where
-  pub inside : at + 11 * left ≤ length d
-  pub same : among label (labels_in left (drop at d)) ≡ among label (labels_in n (drop from d))
+  module _ (head : List ℕ) (behind : List (List ℕ)) (e : left ≡ head ∷ behind) (b : Bool) (f : b ≡ list_any (λ r. r ! 0 is (head ! 0)) behind) where
+    step : distinct (labels_of left) ≡ (not b && distinct (labels_of behind))
+    unfolding distinct labels_of
+    step = rw (e, f, any-label (head ! 0) behind)
 
-pub ask-start : (d : List ℕ) (from n label : ℕ) → from + 11 * n ≤ length d → Asking d from n label from n
-ask-start d from n label h = record { inside = h; same = refl }
+    pub part-twice : b ≡ true → false ≡ distinct (labels_of all)
+    part-twice h = sym (rw (step, h)) ∙ g.same
 
-module _ {d : List ℕ} {from n label at left : ℕ} (g : Asking d from n label at left) where
-  module _ (p : 0 < left) where
-    pub ask-read : at < length d
-    ask-read = omega (arith, g.inside)
+    pub part-on : b ≡ false → Parting all behind
+    part-on h = record { same = sym (rw (step, h)) ∙ g.same }
 
-    pub ask-hit : d ! at ≡ label → true ≡ among label (labels_in n (drop from d))
-    unfolding among
-    ask-hit h = sym (rw (labels-step d at left p, eq-eqb (d ! at) label h)) ∙ g.same
-
-    pub ask-on : (d ! at ≡ label → ⊥) → Asking d from n label (at + 11) (left - 1)
-    unfolding among
-    ask-on h =
-        record {
-          inside = omega (arith, g.inside);
-          same = sym (rw (labels-step d at left p, ne_eqb (d ! at) label h)) ∙ g.same;
-        }
-
-  pub ask-end : left ≤ 0 → false ≡ among label (labels_in n (drop from d))
-  unfolding among
-  ask-end p = sym (rw (labels-none d at left p)) ∙ g.same
-
-pub ruleset asking = (ask-start, ask-read, ask-hit, ask-on, ask-end, rules)
-
--- ---- labels that are distinct
-
-pub record Parting (d : List ℕ) (n at left : ℕ) : Type 0 where
-  pub inside : at + 11 * left ≤ length d
-  pub same : distinct (labels_in left (drop at d)) ≡ distinct (labels_in n d)
-
-pub part-start : (d : List ℕ) (n : ℕ) → 11 * n ≤ length d → Parting d n 0 n
-part-start d n h = record { inside = omega arith; same = refl }
-
-module _ {d : List ℕ} {n at left : ℕ} (g : Parting d n at left) where
-  module _ (p : 0 < left) where
-    pub part-read : at < length d
-    part-read = omega (arith, g.inside)
-
-    pub part-behind : at + 11 + 11 * (left - 1) ≤ length d
-    part-behind = omega (arith, g.inside)
-
-    module _ (b : Bool) (f : b ≡ among (d ! at) (labels_in (left - 1) (drop (at + 11) d))) where
-      step : distinct (labels_in left (drop at d)) ≡ (not b && distinct (labels_in (left - 1) (drop (at + 11) d)))
-      unfolding distinct
-      step = rw (f, labels-step d at left p)
-
-      pub part-twice : b ≡ true → false ≡ distinct (labels_in n d)
-      part-twice h = sym (rw (step, h)) ∙ g.same
-
-      pub part-on : b ≡ false → Parting d n (at + 11) (left - 1)
-      part-on h = record { inside = part-behind; same = sym (rw (step, h)) ∙ g.same }
-
-  pub part_end : left ≤ 0 → true ≡ distinct (labels_in n d)
-  unfolding distinct
-  part_end p = sym (rw (labels-none d at left p)) ∙ g.same
-
-pub ruleset parting = (part-start, part-read, part-behind, part-twice, part-on, part_end, rules)
+pub ruleset parting = (part_end, rules)

@@ -1,13 +1,15 @@
 -- "$": what holds while files are laid out, record by record, and its steps.
-use Prim.Native.Nat.{ℕ, zero, suc, ◌+◌, ◌-◌, ◌*◌, ◌≤◌, ◌<◌, ◌^◌}
+use Prim.Native.Nat.{ℕ, zero, suc, ◌+◌, ◌-◌, ◌*◌, ◌≤◌, ◌<◌}
 use mathlib.Core.Path.{◌≡◌, refl, sym, ap, ◌∙◌}
-use mathlib.Core.List.{List, ◌++◌, append_assoc, append-nil}
+use mathlib.Core.List.{List, [], ◌++◌, append_assoc, append-nil}
 use native.Mathlib.Omega.{arith}
 use mir.Syntax.{w16, w64}
 use mir.Val.{Fits}
 use borrow.Author.Rules.{rules}
-use lib.ListN.{length, take, drop, set, length-append, length-drop, length-set}
-use lib.Seq.{drop-drop, drop-length, take_all, length-take-le}
+use lib.ListN.{length, take, drop, get_or, set, length-append, length-drop}
+use lib.Seq.{drop-drop, drop-length, take_all, get_or-take}
+use Rattle.std.specs.List.{concat}
+use Rattle.std.specs.Simd.{first_chunks}
 use Rattle.octets.specs.Choice.{◌is◌, ◌!◌}
 use Rattle.octets.specs.Hex.{in_hex4}
 use Rattle.octets.specs.Buffer.{zeros, splice}
@@ -18,8 +20,9 @@ use Rattle.buffers.proofs.Splices.{take-splice, splice-within, splice-next}
 use Rattle.board.specs.Files.{unused}
 use Rattle.board.specs.Index.{FIRST-LABEL, LAST-LABEL, ENTRIES, no_entries, index_of}
 use Rattle.board.proofs.Indexing.{record-label}
-use Rattle.configuration.specs.Records.{needed, size_in, with_size, laid}
+use Rattle.configuration.specs.Records.{records_in, needed, size_in, with_size, laid}
 use Rattle.configuration.specs.InnerFiling.{empty_file, Spot, Listed, Laid}
+use Rattle.configuration.proofs.Cuts.{cut-at, size-in-first}
 use Rattle.configuration.proofs.RecordLaws.{Records, records-of, gets, sized-length, room_after, room-unused, placed_in, room-index}
 
 -- ---- a file
@@ -42,10 +45,10 @@ store-done m m₁ m₂ d place size h e p q =
     q ∙ rw p (splice-within m place d (omega arith) 3 (in_hex4 size) (rw four-long (omega arith)) ∙ ap (splice m place) (sized-splice d size e))
 
 -- a record is stored, and then zeros put
-pub file-done : (m m₁ m₂ d : List ℕ) (place size : ℕ) → Spot m place size d → m₁ ≡ splice m place (with_size size d) →
+pub file-done : (m m₁ m₂ d : List ℕ) (place size : ℕ) → Spot m place size → length d ≡ 11 → m₁ ≡ splice m place (with_size size d) →
     m₂ ≡ splice m₁ (place + 11) (zeros size) → m₂ ≡ splice m place (empty_file size d)
 unfolding empty_file
-file-done m m₁ m₂ d place size g p q =
+file-done m m₁ m₂ d place size g e p q =
     let l : length (with_size size d) ≡ 11 = sized-length d (omega arith) size in
     q ∙ rw p (splice-next m place (with_size size d) (zeros size) (place + 11) (omega arith) (omega arith))
 
@@ -125,103 +128,115 @@ turn (suc n) room d at p r h =
       more = rw (suc-less-one n, ← drop-drop 11 at d) g.more;
     }
 
--- the files before place are laid out and put into the index p, and the rest of memory is to be as the records from place at on ask
-pub record Laying (m₀ d : List ℕ) (n : ℕ) (m p : List ℕ) (place at left : ℕ) : Type 0 where
+-- the files of i records are laid out before place and put into the index p, and the rest of memory is to be as the other records ask;
+-- d is the list of them all, and at is where the next record stands in it
+pub record Laying (m₀ : List ℕ) (rs : List (List ℕ)) (m p : List ℕ) (place i : ℕ) : Type 0 where
+  pub few : i ≤ length rs
+  pub cut : rs ≡ first_chunks 11 (length rs) (concat rs)
   pub long : length m ≡ length m₀
   pub short : length m ≤ 32768
   pub inside : place ≤ length m
-  pub records : Records left (drop at d)
-  pub room : needed left (drop at d) ≤ length m - place
-  pub same : take place m ++ laid left (length m - place) (drop at d) ≡ laid n (length m₀) d
-  pub over : room_after left (length m - place) (drop at d) ≡ unused n (laid n (length m₀) d)
-  pub slots : length p ≡ ENTRIES
-  pub noted : placed_in left (length m - place) (drop at d) place p ≡ index_of n (laid n (length m₀) d)
+  pub records : Records (length rs - i) (drop (11 * i) (concat rs))
+  pub room : needed (length rs - i) (drop (11 * i) (concat rs)) ≤ length m - place
+  pub same : take place m ++ laid (length rs - i) (length m - place) (drop (11 * i) (concat rs)) ≡ laid (length rs) (length m₀) (concat rs)
+  pub over : room_after (length rs - i) (length m - place) (drop (11 * i) (concat rs)) ≡ unused (length rs) (laid (length rs) (length m₀) (concat rs))
+  pub noted : placed_in (length rs - i) (length m - place) (drop (11 * i) (concat rs)) place p ≡ index_of (length rs) (laid (length rs) (length m₀) (concat rs))
 
-pub lay-start : (m d : List ℕ) (n : ℕ) → Listed m d n → Laying m d n m no_entries 0 0 n
-lay-start m d n h =
-    let z : length m - 0 ≡ length m = omega arith in
-    let r : Records n d = rw h.all (records-of 64 d h.good).1 in
+pub lay-start : (m : List ℕ) (rs : List (List ℕ)) → Listed m rs → Laying m rs m no_entries 0 0
+lay-start m rs h =
+    let d = concat rs in
+    let n = length rs in
+    let y : length m - 0 ≡ length m = omega arith in
+    let z : length rs - 0 ≡ length rs = omega arith in
+    let all : length rs ≡ records_in d = omega (arith, h.long) in
+    let r : Records n d = rw all (records-of 64 d h.good).1 in
     record {
+      few = omega arith;
+      cut = h.cut;
       long = refl;
       short = h.short;
       inside = omega arith;
-      records = r;
-      room = omega (arith, h.room);
-      same = rw z;
-      over = rw z (room-unused n (length m) d r h.room h.short);
-      slots = refl;
-      noted = rw z (room-index n (length m) d r h.room h.short);
+      records = rw z r;
+      room = rw z (omega (arith, h.room));
+      same = rw (y, z);
+      over = rw (y, z) (room-unused n (length m) d r h.room h.short);
+      noted = rw (y, z) (room-index n (length m) d r h.room h.short);
     }
 
-module _ {m₀ d : List ℕ} {n : ℕ} {m p : List ℕ} {place at left : ℕ} (g : Laying m₀ d n m p place at left) where
+module _ {m₀ : List ℕ} {rs : List (List ℕ)} {m p : List ℕ} {place i : ℕ} (g : Laying m₀ rs m p place i) where
+  abbrev d : List ℕ
+  d = concat rs
+
+  abbrev at : ℕ
+  at = 11 * i
+
+  abbrev left : ℕ
+  left = length rs - i
+
   pub lay-short : length m - place ≤ 32768
   lay-short = omega (arith, g.short)
 
-  pub lay-end : left ≤ 0 → (m₁ : List ℕ) → m₁ ≡ splice m place (zeros (length m - place)) → (u : ℕ) → u ≡ length m - place → Laid m₀ d n m₁ (record { unused = u; places = p })
+  pub lay-end : length rs ≤ i → (m₁ : List ℕ) → m₁ ≡ splice m place (zeros (length m - place)) → (u : ℕ) → u ≡ length m - place → Laid m₀ rs m₁ (record { unused = u; places = p })
   unfolding splice
   lay-end h m₁ e u f =
       let z : place + (length m - place) ≡ length m = omega arith in
+      let k : left ≤ 0 = omega arith in
       record {
         stored = e ∙ rw (length-zeros (length m - place), z, drop-length m)
-            (append-nil (take place m ++ zeros (length m - place)) ∙ rw (laid_none left (length m - place) (drop at d) h) at g.same);
-        left = f ∙ sym (after_none left (length m - place) (drop at d) h) ∙ g.over;
-        noted = sym (placed-none left (length m - place) (drop at d) place p h) ∙ g.noted;
+            (append-nil (take place m ++ zeros (length m - place)) ∙ rw (laid_none left (length m - place) (drop at d) k) at g.same);
+        left = f ∙ sym (after_none left (length m - place) (drop at d) k) ∙ g.over;
+        noted = sym (placed-none left (length m - place) (drop at d) place p k) ∙ g.noted;
       }
 
-  module _ (h : 0 < left) where
+  module _ (h : i < length rs) where
+    -- the next of the records
+    abbrev head : List ℕ
+    head = get_or rs i []
+
+    some : 0 < left
+    some = omega arith
+
     now-turn : Turn left (length m - place) d at
-    now-turn = turn left (length m - place) d at h g.records g.room
+    now-turn = turn left (length m - place) d at some g.records g.room
 
-    pub lay-there : at + 11 ≤ length d
-    lay-there = now-turn.there
+    long-enough : 11 ≤ length (drop at d)
+    long-enough = rw length-drop (omega (arith, now-turn.there))
 
-    pub lay-read : at < length d
-    lay-read = omega (arith, lay-there)
+    taken-head : head ≡ take 11 (drop at d)
+    taken-head = ap (λ (l : List (List ℕ)). get_or l i []) g.cut ∙ cut-at (length rs) i d [] h
 
-    pub lay-label : FIRST-LABEL ≤ d ! at
-    lay-label = now-turn.label.0
+    label-head : head ! 0 ≡ d ! at
+    label-head = ap (λ (l : List ℕ). l ! 0) taken-head ∙ get_or-take 11 (drop at d) 0 0 (omega arith) ∙ head_at d at
 
-    module _ (i : ℕ) (e : i ≡ d ! at - FIRST-LABEL) where
-      pub lay-slot : i < ENTRIES
-      lay-slot = omega (arith, now-turn.label.1)
+    pub lay-label : FIRST-LABEL ≤ head ! 0
+    lay-label = rw label-head now-turn.label.0
 
-      pub lay-scaled : Fits w64 (i * 2)
-      lay-scaled = record { fits = omega (arith, lay-slot) }
+    module _ (k : ℕ) (e : k ≡ head ! 0 - FIRST-LABEL) where
+      pub lay-slot : k < ENTRIES
+      lay-slot = omega (arith, label-head, now-turn.label.1)
 
     pub lay-place : Fits w16 place
     lay-place = record { fits = omega (arith, g.inside, g.short) }
 
-    pub lay_at : at ≤ length d
-    lay_at = omega (arith, lay-there)
-
-    pub lay-on : length d < 2 ^ 64 → Fits w64 (at + 11)
-    lay-on l = record { fits = omega (arith, lay-there) }
-
     pub lay-least : 11 ≤ length m - place
     lay-least = omega (arith, now-turn.inside)
 
-    module _ (size : ℕ) (e : size ≡ size_in (length m - place) (drop at d)) where
+    module _ (size : ℕ) (f : size ≡ size_in (length m - place) head) where
+      e : size ≡ size_in (length m - place) (drop at d)
+      e = f ∙ ap (size_in (length m - place)) taken-head ∙ size-in-first (length m - place) (drop at d) long-enough
+
       fits : place + 11 + size ≤ length m
-      fits = omega (arith, now-turn.inside)
+      fits = omega (arith, e, now-turn.inside)
 
       pub lay-fits : Fits w64 (place + 11 + size)
       lay-fits = record { fits = omega (arith, fits) }
 
-      pub lay-spot : Spot m place size (take (at + 11 - at) (drop at d))
-      lay-spot =
-          let z : at + 11 - at ≡ 11 = omega arith in
-          record {
-            eleven = rw z (length-take-le 11 (drop at d) (rw length-drop (omega (arith, lay-there))));
-            inside = fits;
-            small = omega (arith, fits);
-          }
+      pub lay-spot : Spot m place size
+      lay-spot = record { inside = fits; small = omega (arith, fits, g.short) }
 
-      module _ (m₁ : List ℕ) (f : m₁ ≡ splice m place (empty_file size (take (at + 11 - at) (drop at d)))) where
-        long-enough : 11 ≤ length (drop at d)
-        long-enough = rw length-drop (omega (arith, lay-there))
-
+      module _ (m₁ : List ℕ) (s : m₁ ≡ splice m place (empty_file size head)) where
         laid-file : m₁ ≡ splice m place (empty_file size (drop at d))
-        laid-file = let z : at + 11 - at ≡ 11 = omega arith in f ∙ rw z (ap (splice m place) (file-head (drop at d) size long-enough))
+        laid-file = s ∙ ap (splice m place) (ap (empty_file size) taken-head ∙ file-head (drop at d) size long-enough)
 
         file-inside : place + length (empty_file size (drop at d)) ≤ length m
         file-inside = rw (file-long (drop at d) size long-enough) (omega (arith, fits))
@@ -234,21 +249,24 @@ module _ {m₀ d : List ℕ} {n : ℕ} {m p : List ℕ} {place at left : ℕ} (g
             let z : place + length (empty_file size (drop at d)) ≡ place + 11 + size = rw (file-long (drop at d) size long-enough) (omega arith) in
             rw (laid-file, ← z) (take-splice m place (empty_file size (drop at d)) file-inside)
 
-        pub lay-next : (i : ℕ) → i ≡ d ! at - FIRST-LABEL → Laying m₀ d n m₁ (set p i place) (place + 11 + size) (at + 11) (left - 1)
-        lay-next i k =
+        pub lay-next : (k : ℕ) → k ≡ head ! 0 - FIRST-LABEL → Laying m₀ rs m₁ (set p k place) (place + 11 + size) (i + 1)
+        lay-next k t =
             let z : length m - (place + 11 + size) ≡ length m - place - (11 + size) = omega arith in
+            let x : length rs - (i + 1) ≡ left - 1 = omega arith in
+            let y : 11 * (i + 1) ≡ at + 11 = omega arith in
             record {
+              few = omega arith;
+              cut = g.cut;
               long = as_long ∙ g.long;
               short = rw as_long g.short;
               inside = rw as_long fits;
-              records = now-turn.records;
-              room = rw (as_long, z, e) now-turn.more;
+              records = rw (x, y) now-turn.records;
+              room = rw (x, y, as_long, z, e) now-turn.more;
               same =
-                  rw (front, as_long, z, append_assoc (take place m) (empty_file size (drop at d)) (laid (left - 1) (length m - place - (11 + size)) (drop (at + 11) d)), e)
-                  (rw (← laid-step left (length m - place) d at h) g.same);
-              over = rw (as_long, z, e) (sym (after-step left (length m - place) d at h) ∙ g.over);
-              slots = length-set p i place ∙ g.slots;
-              noted = rw (as_long, z, e, k) (sym (placed-step left (length m - place) d at place p h) ∙ g.noted);
+                  rw (x, y, front, as_long, z, append_assoc (take place m) (empty_file size (drop at d)) (laid (left - 1) (length m - place - (11 + size)) (drop (at + 11) d)), e)
+                  (rw (← laid-step left (length m - place) d at some) g.same);
+              over = rw (x, y, as_long, z, e) (sym (after-step left (length m - place) d at some) ∙ g.over);
+              noted = rw (x, y, as_long, z, e, t, label-head) (sym (placed-step left (length m - place) d at place p some) ∙ g.noted);
             }
 
-pub ruleset laying = (lay-start, lay-there, lay-read, lay-label, lay-slot, lay-scaled, lay-place, lay_at, lay-on, lay-least, lay-fits, lay-spot, lay-next, lay-short, lay-end, rules)
+pub ruleset laying = (lay-start, lay-label, lay-slot, lay-place, lay-least, lay-fits, lay-spot, lay-next, lay-short, lay-end, rules)

@@ -1,5 +1,6 @@
 -- Laws of a "$" list, and what the functions go by.
 pub mod RecordLaws
+pub mod Cuts
 pub mod CapitalsLaws
 pub mod LabelsLaws
 pub mod Listing

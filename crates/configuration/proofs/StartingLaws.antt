@@ -1,21 +1,20 @@
 -- A first start: the list of 26 records, what holds while it is made, and that it is taken as by "$" wherever memory has room for it.
-use Prim.Native.Nat.{ℕ, zero, suc, ◌+◌, ◌*◌, ◌-◌, ◌/◌, ◌<◌, ◌≤◌}
-use mathlib.Core.Path.{◌≡◌, refl, sym, ap, ◌∙◌}
-use mathlib.Core.List.{List, [], ◌∷◌, ◌++◌, append_assoc, append-nil}
+use Prim.Native.Nat.{ℕ, zero, suc, ◌+◌, ◌*◌, ◌/◌, ◌<◌, ◌≤◌}
+use mathlib.Core.Path.{◌≡◌, refl, sym, ap, ap₂, ◌∙◌}
+use mathlib.Core.List.{List, [], ◌∷◌, ◌++◌}
 use mathlib.Core.Bool.{true}
 use native.Mathlib.Omega.{arith}
-use native.Mathlib.Numerals.{add-one}
-use mir.Syntax.{w8}
-use mir.Val.{Fits}
 use borrow.Author.Rules.{rules}
 use borrow.Author.Tests.{lt-ltb, le-ltb}
-use lib.ListN.{length, drop, length-append, drop_of_length-le}
+use lib.ListN.{length, take, set, length-set}
+use lib.Seq.{take_at, drop_at, take_all}
+use Rattle.std.specs.List.{concat}
+use Rattle.std.specs.Simd.{first_chunks}
+use Rattle.std.proofs.lemmas.Grind.{take-set_at}
 use Rattle.octets.specs.Choice.{among}
 use Rattle.octets.specs.Hex.{digit, value, is_hex2, hex2, is_hex4, hex4, in_hex4}
 use Rattle.octets.specs.Carried.{capital}
-use Rattle.octets.specs.Buffer.{zeros, splice, overlay}
-use Rattle.octets.proofs.Tests.{suc-less-one}
-use Rattle.buffers.proofs.Splices.{overlay-none, overlay-append, length-overlay}
+use Rattle.octets.specs.Buffer.{zeros}
 use Rattle.board.specs.Settings.{with_files}
 use Rattle.board.specs.Files.{size_of, taken, files_of, heads, distinct}
 use Rattle.board.specs.Kinds.{kind_of, is_size_of, is_start_code, is_stop_code, is_codes_of}
@@ -28,90 +27,75 @@ use Rattle.configuration.specs.Capitals.{capitals_from, list_capitals}
 use Rattle.configuration.specs.Records.{is_records, labels_in, needed, needed_by, refusal, size_in, with_size, laid}
 use Rattle.configuration.specs.Configuration.{replaced, replace, configure}
 use Rattle.configuration.specs.Starting.{start_record, start_records, start_list, START-MEMORY, started}
-use Rattle.configuration.specs.InnerFiling.{Listed, Laid}
+use Rattle.configuration.specs.InnerFiling.{Listed, Laid, start_heads}
 use Rattle.configuration.specs.declared.Kept.{Kept}
+use Rattle.configuration.proofs.Cuts.{listed-long}
 use Rattle.configuration.proofs.ConfigurationLaws.{replaced-length, replaced-sound}
 
 -- ---- the list
 
--- a record, by its bytes
-abbrev pub record_bytes : ℕ → List ℕ
-record_bytes label = label ∷ 0x41 ∷ 0x55 ∷ 0x30 ∷ 0x30 ∷ 0x39 ∷ 0x36 ∷ 0x46 ∷ 0x46 ∷ 0x30 ∷ 0x30 ∷ []
-
-pub record-put : (label : ℕ) (o r : List ℕ) (at : ℕ) → r ≡ splice o at (record_bytes label) → r ≡ splice o at (start_record label)
+pub record-put : (label : ℕ) → label ∷ 0x41 ∷ 0x55 ∷ 0x30 ∷ 0x30 ∷ 0x39 ∷ 0x36 ∷ 0x46 ∷ 0x46 ∷ 0x30 ∷ 0x30 ∷ [] ≡ start_record label
 unfolding start_record in_hex4 digit
-record-put label o r at e = e
+record-put label = refl
 
 record-length : (label : ℕ) → length (start_record label) ≡ 11
 unfolding start_record in_hex4
 record-length label = refl
 
-records-length : (n label : ℕ) → length (start_records n label) ≡ 11 * n
-unfolding start_records
-records-length zero label = refl
-records-length (suc n) label = rw (length-append, record-length label, records-length n (suc label)) (omega arith)
+-- the records of n labels are those that the list is cut into
+heads-cut : (n label : ℕ) → start_heads n label ≡ first_chunks 11 n (start_records n label)
+unfolding start_heads start_records
+heads-cut zero label = refl
+heads-cut (suc n) label =
+    let r = start_record label in
+    let l = start_records n (suc label) in
+    ap₂ ◌∷◌ (sym (take_at r l 11 (record-length label))) (heads-cut n (suc label) ∙ ap (first_chunks 11 n) (sym (drop_at r l 11 (record-length label))))
 
--- the first of them, and those behind it
-records-first : (n label : ℕ) → 0 < n → start_records n label ≡ start_record label ++ start_records (n - 1) (label + 1)
-unfolding start_records
-records-first zero label h = absurd (omega arith)
-records-first (suc n) label h = rw (suc-less-one n, add-one)
+heads-join : (n label : ℕ) → concat (start_heads n label) ≡ start_records n label
+unfolding start_heads start_records
+heads-join zero label = refl
+heads-join (suc n) label = ap (λ (l : List ℕ). start_record label ++ l) (heads-join n (suc label))
 
-records-none : (n label : ℕ) → n ≤ 0 → start_records n label ≡ []
-unfolding start_records
-records-none zero label h = refl
-records-none (suc n) label h = absurd (omega arith)
+heads-count : (n label : ℕ) → length (start_heads n label) ≡ n
+unfolding start_heads
+heads-count zero label = refl
+heads-count (suc n) label = ap suc (heads-count n (suc label))
 
-pub list_length : length start_list ≡ 286
-unfolding start_list
-list_length = records-length 26 0x41
+-- one more of them
+heads-more : (n label : ℕ) → start_heads n label ++ (start_record (label + n) ∷ []) ≡ start_heads (n + 1) label
+unfolding start_heads
+heads-more zero label = let z : label + 0 ≡ label = omega arith in rw z
+heads-more (suc n) label =
+    let z : label + suc n ≡ suc label + n = omega arith in
+    let y : suc n + 1 ≡ suc (n + 1) = omega arith in
+    rw (y, z) (ap (λ (l : List (List ℕ)). start_record label ∷ l) (heads-more n (suc label)))
 
--- ---- what holds while it is made: those in front are there, and those that are left make it whole
+-- ---- what holds while it is made: the first i are there
 
-pub record Making (o r : List ℕ) (at label left : ℕ) : Type 0 where
-  pub front : List ℕ
-  pub there : r ≡ overlay o front
-  pub place : at ≡ length front
-  pub room : at + 11 * left ≡ 286
-  pub letters : label + left ≡ 91
-  pub long : length o ≡ 286
-  pub whole : front ++ start_records left label ≡ start_list
+pub record Making (l : List (List ℕ)) (i : ℕ) : Type 0 where
+  pub long : length l ≡ 26
+  pub few : i ≤ 26
+  pub front : take i l ≡ start_heads i 0x41
 
-pub make-start : (o : List ℕ) → length o ≡ 286 → Making o o 0 0x41 26
-unfolding start_list
-make-start o h = record { front = []; there = sym (overlay-none o); place = refl; room = refl; letters = refl; long = h; whole = refl }
+pub make-start : (l : List (List ℕ)) → length l ≡ 26 → Making l 0
+unfolding start_heads
+make-start l h = record { long = h; few = omega arith; front = refl }
 
-module _ {o r : List ℕ} {at label left : ℕ} (g : Making o r at label left) where
-  pub make-long : length r ≡ length o
-  make-long = ap length g.there ∙ length-overlay o g.front (omega (arith, g.place, g.room, g.long))
+module _ {l : List (List ℕ)} {i : ℕ} (g : Making l i) where
+  pub make-on : i < 26 → (r : List ℕ) → r ≡ start_record (0x41 + i) → Making (set l i r) (i + 1)
+  make-on h r e =
+      record {
+        long = length-set l i r ∙ g.long;
+        few = omega arith;
+        front = take-set_at l i (i + 1) r refl (omega (arith, g.long)) ∙ rw (g.front, e) (heads-more i 0x41);
+      }
 
-  module _ (p : 0 < left) where
-    pub make-room : at + 11 ≤ length r
-    make-room = omega (arith, make-long, g.long, g.room)
-
-    pub make-byte : Fits w8 (label + 1)
-    make-byte = record { fits = omega (arith, g.letters) }
-
-    pub make-on : (q : List ℕ) → q ≡ splice r at (start_record label) → Making o q (at + 11) (label + 1) (left - 1)
-    make-on q e =
-        record {
-          front = g.front ++ start_record label;
-          there = e ∙ rw g.there (overlay-append o g.front (start_record label) at g.place);
-          place = rw (length-append, record-length label) (omega (arith, g.place));
-          room = omega (arith, g.room);
-          letters = omega (arith, g.letters);
-          long = g.long;
-          whole = append_assoc g.front (start_record label) _ ∙ ap (λ (l : List ℕ). g.front ++ l) (sym (records-first left label p)) ∙ g.whole;
-        }
-
-  pub make-end : left ≤ 0 → r ≡ start_list
-  unfolding overlay
+  pub make-end : 26 ≤ i → l ≡ start_heads 26 0x41
   make-end h =
-      let all : g.front ≡ start_list = sym (append-nil g.front) ∙ ap (λ (l : List ℕ). g.front ++ l) (sym (records-none left label h)) ∙ g.whole in
-      let rest : drop (length g.front) o ≡ [] = drop_of_length-le o {i = length g.front} (omega (arith, g.place, g.room, g.long)) in
-      g.there ∙ ap (λ (l : List ℕ). g.front ++ l) rest ∙ append-nil g.front ∙ all
+      let z : i ≡ 26 = omega (arith, g.few) in
+      rw z at (sym (take_all i l (omega (arith, g.long))) ∙ g.front)
 
-pub ruleset making = (record-put, make-start, make-long, make-room, make-byte, make-on, make-end, rules)
+pub ruleset making = (record-put, make-start, make-on, make-end, rules)
 
 -- ---- it is taken
 
@@ -172,16 +156,34 @@ module _ (b : Board) where
 
 -- ---- as the code does it
 
--- l is the list that it has made
-module _ (l : List ℕ) (e : l ≡ start_list) where
-  pub start-listed : (m : List ℕ) → START-MEMORY ≤ length m → length m ≤ 32768 → Listed m l 26
+-- rs is the list that it has made
+module _ (rs : List (List ℕ)) (e : rs ≡ start_heads 26 0x41) where
+  joined : concat rs ≡ start_list
+  unfolding start_list
+  joined = ap concat e ∙ heads-join 26 0x41
+
+  so-many : length rs ≡ 26
+  so-many = ap length e ∙ heads-count 26 0x41
+
+  cut : rs ≡ first_chunks 11 26 start_list
+  unfolding start_list
+  cut = e ∙ heads-cut 26 0x41
+
+  pub start-listed : (m : List ℕ) → START-MEMORY ≤ length m → length m ≤ 32768 → Listed m rs
   start-listed m h o =
       let t = start-taken in
-      rw e (record { good = t.good; all = sym t.count; room = rw t.takes h; short = o })
+      let k : length start_list ≡ 11 * 26 = omega (arith, (listed-long start_list t.good).0, t.count) in
+      record {
+        cut = rw (so-many, joined) cut;
+        long = rw (so-many, joined) k;
+        good = rw joined t.good;
+        room = rw (so-many, joined, t.takes) h;
+        short = o;
+      }
 
-  pub start-done : (m m₁ : List ℕ) (k : Kept) → Laid m l 26 m₁ k → (b : Board) → m ≡ b.memory → (s : Settings) →
+  pub start-done : (m m₁ : List ℕ) (k : Kept) → Laid m rs m₁ k → (b : Board) → m ≡ b.memory → (s : Settings) →
       s ≡ with_files b.settings 26 k.unused k.places → board s m₁ ≡ started b
   unfolding started replaced
-  start-done m m₁ k g b i s j = rw (j, g.left, g.noted, g.stored, e, i, start-taken.count)
+  start-done m m₁ k g b i s j = rw (j, g.left, g.noted, g.stored, so-many, joined, i, start-taken.count)
 
-pub ruleset starting = (list_length, start-listed, start-done, sound-most, rules)
+pub ruleset starting = (start-listed, start-done, sound-most, rules)

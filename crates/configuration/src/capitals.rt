@@ -22,9 +22,7 @@ pub fn put_capitals(d: &[u8], list: &mut [u8])
     requires { length d.now ≤ length list.old }
     ensures { list.new ≡ overlay list.old (list_capitals d.now) }
 {
-    let mut i: usize = 0;
-    while i < d.len() {
+    for i in 0..d.len() {
         list[i] = capital_in(d, i);
-        i += 1;
     }
 }

@@ -9,6 +9,7 @@ mod records;
 pub mod starting;
 
 pub use crate::configuration::configure;
+use board::index::LABELS;
 
 // The most that a list is: 64 records of 11 bytes.
 const LIST: usize = 704;
@@ -17,5 +18,5 @@ const LIST: usize = 704;
 #[derive(Clone, Copy)]
 pub struct Kept {
     pub unused: u16,
-    pub places: [u16; 95],
+    pub places: [u16; LABELS],
 }

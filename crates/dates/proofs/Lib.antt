@@ -1,3 +1,2 @@
 -- Laws of dates.
 pub mod Bounds
-pub mod CalendarLaws

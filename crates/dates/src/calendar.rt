@@ -12,10 +12,11 @@ pub const LAST_YEAR: u16 = 2099;
 fn is_year(year: u16) -> bool
     ensures { result ≡ between FIRST-YEAR LAST-YEAR year }
 {
-    FIRST_YEAR <= year && year <= LAST_YEAR
+    (FIRST_YEAR..=LAST_YEAR).contains(&year)
 }
 
 // "with 29 February in each year divisible by four"
+#[tactic(auto, unfolding(crate::specs::Calendar::february))]
 fn february(year: u16) -> u8
     ensures { result ≡ february year }
 {
@@ -23,6 +24,7 @@ fn february(year: u16) -> u8
 }
 
 // "true month lengths"; what is no month has no days.
+#[tactic(auto, unfolding(crate::specs::Calendar::month_length))]
 pub fn month_length(year: u16, month: u8) -> u8
     ensures { result ≡ month_length year month }
 {
@@ -35,12 +37,10 @@ pub fn month_length(year: u16, month: u8) -> u8
 }
 
 // Whether a date exists.
+#[tactic(auto, unfolding(crate::specs::Calendar::is_date))]
 pub fn is_date(year: u16, month: u8, day: u8) -> bool
     ensures { result ≡ is_date year month day }
 {
-    if !is_year(year) {
-        return false;
-    }
     let last = month_length(year, month);
-    1 <= day && day <= last
+    is_year(year) && (1..=last).contains(&day)
 }

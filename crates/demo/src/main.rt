@@ -1,57 +1,34 @@
 // The demo of document 01: reads one frame from standard input, runs it on a fresh 512-byte board of type "C" and prints five lines.
 #![tactic(auto)]
 
-ghost use Rattle.std.specs.Prelude.{◌≤◌, length, IfOk};
-
 use sign::Answer;
 use sign::fresh::fresh;
 use sign::run::run;
 use std::io;
 use std::io::Read;
 
+// one byte more than the longest frame: an over-long input stays over-long
+const ROOM: u64 = 24577;
+
 // where the reply to F "#" has the unused memory, and how many digits
 const UNUSED: usize = 32;
 
 const DIGITS: usize = 4;
 
-fn text(rt: &impl Print, s: &[u8]) -> io::Result<()> {
-    rt.write_all(s)
-}
-
-fn number(rt: &impl Print, n: u8) -> io::Result<()> {
-    print!(rt; "{n}")
-}
-
-fn line(rt: &impl Print, name: &[u8], n: u8) -> io::Result<()> {
-    text(rt, name)?;
-    number(rt, n)?;
-    text(rt, b"\n")
-}
-
 // Frame number; blocks done; blocks refused; place and number of the first refused.
 fn print_answer(rt: &impl Print, r: Answer) -> io::Result<()> {
     let tally = r.tally;
-    line(rt, b"result ", r.number)?;
-    line(rt, b"done ", tally.done)?;
-    line(rt, b"refused ", tally.refused)?;
-    text(rt, b"first ")?;
-    number(rt, tally.place)?;
-    text(rt, b" ")?;
-    number(rt, tally.reason)?;
-    text(rt, b"\n")
+    println!(rt; "result {}", r.number)?;
+    println!(rt; "done {}", tally.done)?;
+    println!(rt; "refused {}", tally.refused)?;
+    println!(rt; "first {} {}", tally.place, tally.reason)
 }
 
 // "unused memory in hex"
 fn print_unused(rt: &impl Print, reply: &[u8; 576]) -> io::Result<()> {
-    let digits = [
-        reply[UNUSED],
-        reply[UNUSED + 1],
-        reply[UNUSED + 2],
-        reply[UNUSED + DIGITS - 1],
-    ];
-    text(rt, b"unused ")?;
-    text(rt, &digits)?;
-    text(rt, b"\n")
+    rt.write_all(b"unused ")?;
+    rt.write_all(&reply[UNUSED..UNUSED + DIGITS])?;
+    rt.write_all(b"\n")
 }
 
 fn show(rt: &impl Print, frame: &[u8]) -> io::Result<()> {
@@ -66,28 +43,8 @@ fn show(rt: &impl Print, frame: &[u8]) -> io::Result<()> {
     print_unused(rt, &reply)
 }
 
-// How many bytes of the input stand at the start of buf: it is full, or the input has ended.
-fn read_full<R: Read>(input: &mut R, buf: &mut [u8]) -> io::Result<usize>
-    ensures { IfOk result (λ n. n ≤ length buf.new) }
-{
-    let mut at = 0;
-    for _ in 0..u64::MAX {
-        if at == buf.len() {
-            break;
-        }
-        let n = input.read(&mut buf[at..])?;
-        if n == 0 {
-            break;
-        }
-        at += n;
-    }
-    Ok(at)
-}
-
-// One byte more than the longest frame: an over-long input stays over-long.
 fn main(rt: HostRuntime) -> io::Result<()> {
-    let mut frame = [0u8; 24577];
-    let mut input = rt.reader();
-    let n = read_full(&mut input, &mut frame)?;
-    show(&rt, &frame[..n])
+    let mut frame = Vec::new(rt.alloc());
+    rt.reader().take(ROOM).read_to_end(&mut frame)?;
+    show(&rt, &frame)
 }

@@ -1,6 +1,6 @@
 -- What a block leaves in the register, number by number; and that the fixed bits and every bit that is set stay.
 use Prim.Native.Nat.{ℕ}
-use mathlib.Core.Path.{◌≡◌, ap}
+use mathlib.Core.Path.{◌≡◌}
 use mathlib.Core.Bool.{true, ◌||◌}
 use mathlib.Core.Logic.{◌⊎◌, ⊎_elim, inl, inr}
 use native.Mathlib.Omega.{arith}
@@ -10,9 +10,7 @@ use Rattle.octets.specs.Choice.{◌is◌}
 use Rattle.octets.proofs.Tests.{choice}
 use Rattle.register.specs.Register.{ILLEGAL, CHECKSUM, bit, is_register, noted}
 use Rattle.register.proofs.Noting.{set-stays, fixed_kept}
-use Rattle.board.specs.Settings.{with_errors}
-use Rattle.board.specs.declared.Settings.{Settings}
-use Rattle.effects.specs.Recording.{fault_noted, with_fault}
+use Rattle.effects.specs.Recording.{fault_noted}
 
 -- ---- as the code tells them
 
@@ -30,11 +28,7 @@ module _ (r n : ℕ) where
   unfolding fault_noted
   none-noted a b = rw (ne_eqb n 20 a, ne_eqb n 21 (λ e. b (inl e)), ne_eqb n 23 (λ e. b (inr e)))
 
--- the settings with that register
-pub fault-recorded : (s : Settings) (n x : ℕ) → x ≡ fault_noted s.errors n → with_errors s x ≡ with_fault s n
-fault-recorded s n x e = ap (with_errors s) e
-
-pub ruleset recording = (sum-noted, label-noted, none-noted, fault-recorded, rules)
+pub ruleset recording = (sum-noted, label-noted, none-noted, rules)
 
 -- ---- what stays, whatever the number
 

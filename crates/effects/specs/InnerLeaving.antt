@@ -1,5 +1,6 @@
 -- For contracts of inner functions only: what they need, answer and leave.
-use Rattle.std.specs.Prelude.{ℕ, ◌≤◌, ◌≡◌, true, List, [], ◌∷◌, ◌++◌, length}
+use Rattle.std.specs.Prelude.{ℕ, ◌≤◌, ◌≡◌, true, List, [], ◌∷◌, ◌++◌, length, Result, Ok, Err}
+use Rattle.std.specs.Result.{result_unwrap_or}
 use Rattle.octets.specs.Hex.{in_hex4}
 use Rattle.octets.specs.Buffer.{zeros, splice, overlay}
 use Rattle.octets.specs.Bytes.{SOH, STX, ETX, EOT, ZERO}
@@ -9,10 +10,30 @@ use Rattle.board.specs.declared.Settings.{Settings}
 use Rattle.effects.specs.Reply.{reply_of, reply_room}
 use Rattle.effects.specs.Effects.{Effect}
 use Rattle.effects.specs.declared.Done.{Done}
+use Rattle.effects.specs.declared.Refusal.{Refusal}
+use Rattle.effects.specs.declared.Refusal.TheVariants.{WrongChecksum, Unknown, Malformed, NoFile, TooLong}
+
+-- the document's number of a refusal: 20 "block: wrong checksum", 21 "unknown command byte or function label", 22 "data missing, in
+-- excess, or malformed", 23 "no file of that label and type", 24 "message longer than SIZE"
+abbrev pub number : Refusal → ℕ
+number WrongChecksum = 20
+number Unknown = 21
+number Malformed = 22
+number NoFile = 23
+number TooLong = 24
+
+-- the number of what is answered, 0 where it is no refusal
+abbrev pub number_in : {A : Type 0} → Result A Refusal → ℕ
+number_in (Ok x) = 0
+number_in (Err e) = number e
 
 -- what a block answers
-abbrev pub done_as : ℕ → Settings → ℕ → Done
-done_as n s k = record { number = n; settings = s; length = k }
+abbrev pub done_as : ℕ → ℕ → Done
+done_as n k = record { number = n; length = k }
+
+-- a reply of that length, or a refusal
+abbrev pub done_by : Result ℕ Refusal → Done
+done_by r = done_as (number_in r) (result_unwrap_or r 0)
 
 -- a reply, before its data and behind them
 unfoldable pub reply_lead : ℕ → ℕ → List ℕ
@@ -45,9 +66,9 @@ left n b o k = record { number = n; after = b; buffer = o; length = k }
 unfoldable pub leaving : List ℕ → Effect → Left
 leaving o e = left e.number e.after (overlay o e.reply) (length e.reply)
 
--- a command that hands settings back, beside memory and reply buffer
-abbrev pub left_as : Done → List ℕ → List ℕ → Left
-left_as r m o = left r.number (board r.settings m) o r.length
+-- what a block answered, beside settings, memory and reply buffer
+abbrev pub left_as : Done → Settings → List ℕ → List ℕ → Left
+left_as r s m o = left r.number (board s m) o r.length
 
 -- a sound board, and a reply buffer as long as document 01 asks
 pub record Ready (b : Board) (out : List ℕ) : Type 0 where

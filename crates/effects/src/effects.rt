@@ -1,17 +1,29 @@
 // What a command leaves.
 ghost use Rattle.std.specs.Prelude.{◌≡◌};
-ghost use Rattle.effects.specs.InnerLeaving.{done_as};
+ghost use Rattle.effects.specs.InnerLeaving.{number, done_by};
 
-use crate::Done;
-use board::Settings;
+use crate::{Done, Refusal};
 
-// A block that gives no reply, its number and the settings after it.
-pub fn quiet(s: Settings, number: u8) -> Done
-    ensures { result ≡ done_as number s 0 }
-{
-    Done {
-        number,
-        settings: s,
-        length: 0,
+impl Refusal {
+    // The document's number.
+    pub fn number(self) -> u8
+        ensures { result ≡ number self }
+    {
+        self as u8
+    }
+}
+
+// A reply of that length, 0 where there is none, or a refusal.
+impl From<Result<usize, Refusal>> for Done {
+    ghost from_gives = { λ answered done. done ≡ done_by answered };
+
+    fn from(answered: Result<usize, Refusal>) -> Done {
+        match answered {
+            Ok(length) => Done { number: 0, length },
+            Err(refusal) => Done {
+                number: refusal.number(),
+                length: 0,
+            },
+        }
     }
 }

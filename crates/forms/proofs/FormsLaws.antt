@@ -6,10 +6,10 @@ use Prim.Native.Nat.{ℕ, ◌+◌, ◌/◌, ◌%◌, ◌<◌, ◌≤◌}
 use native.Mathlib.Numerals.{add-one}
 use native.Mathlib.Omega.{arith}
 use borrow.Author.Rules.{rules}
-use borrow.Author.Tests.{ne_eqb, le-leb, lt-leb}
+use borrow.Author.Tests.{ne_eqb}
 use lib.ListN.{length, take, drop, length-append, take-append-drop}
 use lib.Seq.{length-sets, take-suc, take_all}
-use Rattle.octets.specs.Choice.{◌!◌, ◌is◌, ◌isn't◌}
+use Rattle.octets.specs.Choice.{◌!◌, ◌is◌}
 use Rattle.octets.specs.Buffer.{zeros, splice}
 use Rattle.octets.proofs.Buffers.{splice-sets, sets-append}
 use Rattle.octets.specs.Bytes.{SOH, STX, ETX, ESCAPE}
@@ -21,6 +21,7 @@ use Rattle.header.proofs.CapitalsLaws.{header-long}
 use Rattle.body.specs.Sum.{checksum}
 use Rattle.forms.specs.Forms.{is_itself, escape_of, nuls}
 use Rattle.forms.specs.InnerPieces.{Takes, Puts, in_hex2, encode, parting, ending, piece, heading}
+use Rattle.forms.proofs.FormNumbers.{kinds}
 use Rattle.forms.proofs.PieceLaws.{encode-append, encode-none, encode-other, encode-itself, encode-escaped, encode-sum, hex4-halves}
 
 -- ---- one list behind the other
@@ -66,20 +67,6 @@ module _ {o : List ℕ} {at : ℕ} where
 
 -- ---- a byte
 
-pub itself-below : (b : ℕ) → b < 0x20 → false ≡ is_itself b
-unfolding is_itself
-itself-below b h = rw (lt-leb 0x20 b h)
-
-pub itself-above : (b : ℕ) → 0x7E < b → false ≡ is_itself b
-unfolding is_itself
-itself-above b h = rw (le-leb 0x20 b (omega arith), lt-leb b 0x7E h)
-
-pub itself-between : (b : ℕ) → 0x20 ≤ b → b ≤ 0x7E → b isn't ESCAPE ≡ is_itself b
-unfolding is_itself
-itself-between b h k = rw (le-leb 0x20 b h, le-leb b 0x7E k)
-
-pub ruleset itself = (itself-below, itself-above, itself-between, rules)
-
 -- places for it
 module _ {o : List ℕ} {at : ℕ} (form b : ℕ) (t : Takes o at (encode form (b ∷ []))) where
   pub room-other : (form ≡ 3 → ⊥) → at < length o
@@ -120,7 +107,7 @@ module _ {o o₁ : List ℕ} {at a x : ℕ} (p : Puts o at (x ∷ []) o₁ a) wh
   pub room-two : at + 3 ≤ length o → a + 2 ≤ length o₁
   room-two h = omega (arith, p.moved, puts-long p)
 
-pub ruleset bytes = (two-put, escape-put, one-other, one-itself, one-escaped, room-other, room-itself, room-escaped, room-one, room-two, rules)
+pub ruleset bytes = (kinds, two-put, escape-put, one-other, one-itself, one-escaped, room-other, room-itself, room-escaped, room-one, room-two, rules)
 
 -- ---- the bytes of a slice
 
@@ -169,7 +156,7 @@ module _ {o : List ℕ} {at form : ℕ} {s : List ℕ} (n : form ≡ 3 → ⊥) 
   pub all-put : {o₁ : List ℕ} {k : ℕ} → Puts o at s o₁ k → Puts o at (encode form s) o₁ k
   all-put p = puts-as (encode-other form s n) p
 
-pub ruleset runs = (run_room, run-put, all_room, all-put, rules)
+pub ruleset runs = (kinds, run_room, run-put, all_room, all-put, rules)
 
 -- ---- the bytes of a header text, in capitals
 
@@ -280,14 +267,17 @@ module _ {o : List ℕ} {at : ℕ} (form : ℕ) where
               (joined form (parting form first) _ p (joined form (STX ∷ c ∷ d) (ending form (checksum c d)) q (rw e at r)))
 
 -- its sum, two digits and two
-pub sum-put : {o o₁ o₂ : List ℕ} {at a n : ℕ} (v : ℕ) → Puts o₁ a (in_hex2 (v % 256)) o₂ n → Puts o at (in_hex2 (v / 256)) o₁ a → Puts o at (in_hex4 v) o₂ n
-sum-put v q p = puts-as (hex4-halves v) (puts-join (in_hex2 (v / 256)) (in_hex2 (v % 256)) p q)
+pub sum-put : {o o₁ o₂ : List ℕ} {at a n : ℕ} (v : ℕ) → v < 65536 → (l : List ℕ) → l ≡ (v / 256) % 256 ∷ v % 256 ∷ []
+    → Puts o₁ a (in_hex2 (l ! 1)) o₂ n → Puts o at (in_hex2 (l ! 0)) o₁ a → Puts o at (in_hex4 v) o₂ n
+sum-put v h l e q p =
+    let z : (v / 256) % 256 ≡ v / 256 = omega arith in
+    puts-as (hex4-halves v) (puts-join (in_hex2 (v / 256)) (in_hex2 (v % 256)) (rw (e, z) at p) (rw e at q))
 
 pub sum-behind : {o o₁ : List ℕ} {at a : ℕ} (v : ℕ) → at + 4 ≤ length o → Puts o at (in_hex2 v) o₁ a → a + 2 ≤ length o₁
 sum-behind v h p = omega (arith, p.moved, puts-long p)
 
 pub ruleset parts =
-    (sum-put, sum-behind, parting-other, parting-first, parting-more, parting-room, ending-none, ending-room, sum_room, ending-sum, command-front, command-behind, command-put, opened-front, opened-behind, opened-put, rules)
+    (kinds, sum-put, sum-behind, parting-other, parting-first, parting-more, parting-room, ending-none, ending-room, sum_room, ending-sum, command-front, command-behind, command-put, opened-front, opened-behind, opened-put, rules)
 
 pub ruleset piecing = (piece-parting, piece-opened, piece-ending, piece-put, rules)
 
@@ -331,4 +321,4 @@ module _ {o : List ℕ} (form : ℕ) where
   unfolding heading
   heading-put h r q p = joined form (nuls form) (SOH ∷ h) p (joined form (SOH ∷ []) h q r)
 
-pub ruleset headings = (nuls-none, nuls-room, nuls-put, heading-nuls, heading-soh, heading-text, heading-put, rules)
+pub ruleset headings = (kinds, nuls-none, nuls-room, nuls-put, heading-nuls, heading-soh, heading-text, heading-put, rules)

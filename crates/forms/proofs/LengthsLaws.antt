@@ -1,26 +1,22 @@
 -- What the functions that reckon a length go by.
-use mathlib.Core.Path.{◌≡◌, sym, ◌∙◌}
-use mathlib.Core.Bool.{Bool, not}
-use Prim.Native.Nat.{ℕ, ◌+◌, ◌*◌, ◌<◌, ◌≤◌}
+use mathlib.Core.Path.{◌≡◌, refl, sym}
+use mathlib.Core.List.{List}
+use Prim.Native.Nat.{ℕ, ◌+◌, ◌*◌}
+use native.Mathlib.Omega.{arith}
 use borrow.Author.Rules.{rules}
-use borrow.Author.Tests.{ne_eqb, le-leb, lt-leb}
-use Rattle.octets.specs.Choice.{◌≤?◌}
-use Rattle.octets.specs.Bytes.{is_plain}
-use Rattle.forms.specs.Forms.{is_itself}
-use Rattle.forms.specs.InnerLengths.{is_escaped, form_length, render_length}
-use Rattle.forms.proofs.Escapes.{control-none}
+use borrow.Author.Tests.{ne_eqb}
+use Rattle.std.specs.List.{count_by}
+use Rattle.std.proofs.lemmas.List.Recursion.{is_count_by}
+use Rattle.octets.specs.InnerCounts.{count}
+use Rattle.octets.proofs.Tests.{by-test}
+use Rattle.forms.proofs.FormNumbers.{kinds}
+use Rattle.forms.specs.InnerLengths.{is_escaped, escapes, form_length, render_length}
 
--- ---- whether a byte is an escape
+-- ---- how many escapes there are
 
-module _ (b : ℕ) where
-  pub escaped-below : b < 5 → (5 ≤? b) ≡ is_escaped b
-  escaped-below h = lt-leb 5 b h ∙ sym (control-none b h)
-
-  pub escaped-told : 5 ≤ b → (r : Bool) → r ≡ is_itself b → not r ≡ is_escaped b
-  unfolding is_escaped is_plain
-  escaped-told h r e = rw (le-leb 5 b h, e)
-
-pub ruleset escaped = (escaped-below, escaped-told, rules)
+pub escapes-by : (l : List ℕ) → count_by is_escaped l ≡ escapes l
+unfolding count
+escapes-by l = sym (is_count_by escapes is_escaped refl (λ x xs. by-test (is_escaped x) (λ e. rw e (omega arith)) (λ e. rw e)) l)
 
 -- ---- how long a form and a result are
 
@@ -33,9 +29,9 @@ module _ (form h n t : ℕ) where
   unfolding form_length
   long-printable e = rw e
 
-  pub long-other : (form ≡ 1 → ⊥) → (form ≡ 3 → ⊥) → 7 + h + 7 * n + t ≡ form_length form h n t
+  pub long-summed : form ≡ 2 → 7 + h + 7 * n + t ≡ form_length form h n t
   unfolding form_length
-  long-other p q = rw (ne_eqb form 1 p, ne_eqb form 3 q)
+  long-summed e = rw e
 
 module _ (form long n e : ℕ) where
   pub render-printable : form ≡ 3 → long + 2 * (2 + 2 * n + e) ≡ render_length form long n e
@@ -46,4 +42,4 @@ module _ (form long n e : ℕ) where
   unfolding render_length
   render-other t = rw (ne_eqb form 3 t)
 
-pub ruleset reckoned = (long-plain, long-printable, long-other, render-printable, render-other, rules)
+pub ruleset reckoned = (kinds, long-plain, long-printable, long-summed, render-printable, render-other, rules)

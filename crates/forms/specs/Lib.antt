@@ -2,3 +2,4 @@
 pub mod Forms
 pub mod InnerPieces
 pub mod InnerLengths
+pub mod InnerNumbers

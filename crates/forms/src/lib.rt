@@ -3,5 +3,7 @@
 
 mod forms;
 pub mod lengths;
+mod numbers;
 
-pub use crate::forms::{PRINTABLE_FORM, put_eot, put_heading, put_piece};
+pub use crate::forms::{put_eot, put_heading, put_piece};
+pub use crate::numbers::{Form, NoForm};

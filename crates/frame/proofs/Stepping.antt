@@ -1,14 +1,15 @@
 -- What a step over the blocks of a frame promises. s are the bytes in which the blocks stand, r is what a step from a place of s answers: a
 -- block that it finds stands inside s, its data are bytes from 05H up, and the blocks from that place on are this one and those behind it.
 use mathlib.Core.Path.{◌≡◌}
-use mathlib.Core.Bool.{Bool, true}
+use mathlib.Core.Bool.{true}
 use mathlib.Core.List.{List, [], ◌∷◌}
 use Prim.Native.Nat.{ℕ, ◌-◌, ◌<◌, ◌≤◌}
 use lib.ListN.{length, drop}
-use Rattle.octets.specs.Choice.{part, all}
+use Rattle.octets.specs.Choice.{all}
 use Rattle.octets.specs.Bytes.{is_plain}
-use Rattle.body.specs.Body.{block, bad_body, body, prepend, blocks}
-use Rattle.body.specs.Steps.{found_at}
+use Rattle.body.specs.Body.{bad_body, body, prepend, blocks}
+use Rattle.body.specs.Steps.{found_at, data_of, read_back}
+use Rattle.body.specs.declared.Placed.{Placed}
 use Rattle.body.specs.declared.BlockStep.{BlockStep}
 use Rattle.body.specs.declared.BlockStep.TheVariants.{Stray, More, Last}
 use Rattle.body.proofs.FoundBlocks as found
@@ -18,32 +19,32 @@ module _ (s : List ℕ) (at : ℕ) (r : BlockStep) (e : r ≡ found_at s at) whe
   pub stray-blocks : r ≡ Stray → (m : ℕ) → 0 < m → blocks m (drop at s) ≡ bad_body
   stray-blocks = found.blocks-stray s at r e
 
-  -- a block with another one behind it: its data from place i up to place j, the next block at place n
-  module _ {c i j : ℕ} {k : Bool} {n : ℕ} (h : r ≡ More c i j k n) where
-    pub more-ordered : i ≤ j
+  -- a block with another one behind it, the next block at place n
+  module _ {b : Placed} {n : ℕ} (h : r ≡ More b n) where
+    pub more-ordered : b.from ≤ b.to
     more-ordered = found.more-ordered s at r e h
 
-    pub more-inside : j ≤ length s
+    pub more-inside : b.to ≤ length s
     more-inside = found.more-inside s at r e h
 
-    pub more-plain : all is_plain (part i j s) ≡ true
+    pub more-plain : all is_plain (data_of s b) ≡ true
     more-plain = found.more-plain s at r e h
 
-    pub more-blocks : (m : ℕ) → 0 < m → blocks m (drop at s) ≡ prepend (block c (part i j s) k) (blocks (m - 1) (drop n s))
+    pub more-blocks : (m : ℕ) → 0 < m → blocks m (drop at s) ≡ prepend (read_back s b) (blocks (m - 1) (drop n s))
     more-blocks = found.blocks_more s at r e h
 
   -- the last block
-  module _ {c i j : ℕ} {k : Bool} (h : r ≡ Last c i j k) where
-    pub last-ordered : i ≤ j
+  module _ {b : Placed} (h : r ≡ Last b) where
+    pub last-ordered : b.from ≤ b.to
     last-ordered = found.last-ordered s at r e h
 
-    pub last-inside : j ≤ length s
+    pub last-inside : b.to ≤ length s
     last-inside = found.last-inside s at r e h
 
-    pub last-plain : all is_plain (part i j s) ≡ true
+    pub last-plain : all is_plain (data_of s b) ≡ true
     last-plain = found.last-plain s at r e h
 
-    pub last-blocks : (m : ℕ) → 0 < m → blocks m (drop at s) ≡ body (block c (part i j s) k ∷ [])
+    pub last-blocks : (m : ℕ) → 0 < m → blocks m (drop at s) ≡ body (read_back s b ∷ [])
     last-blocks = found.blocks_last s at r e h
 
 -- where no block may stand any more

@@ -3,10 +3,10 @@
 #![tactic(auto)]
 
 // Reading a frame, block by block.
-pub use body::BlockStep;
 pub use body::reader::{Reader, open_at, step, step_from};
-pub use reading::Read;
+pub use body::{BlockStep, Placed};
 pub use reading::reading::read;
+pub use reading::{Read, Refusal};
 
 // The same without a room, of a frame that is not printable.
 pub use reading::reading::{is_printable, read_bare};

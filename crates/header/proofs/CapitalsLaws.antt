@@ -1,21 +1,23 @@
 -- A header's capitals: where its bytes stand, and that boards are addressed alike by a header and its capitals.
 use mathlib.Core.Path.{◌≡◌, refl, sym, ap, ap₂, ◌∙◌}
-use mathlib.Core.Bool.{Bool, true, false, not, ◌||◌}
+use mathlib.Core.Bool.{true, false, not, ◌&&◌, ◌||◌}
 use mathlib.Core.List.{List, [], ◌∷◌}
-use Prim.Native.Nat.{ℕ, zero, suc, ◌+◌, ◌/◌, ◌%◌, ◌<◌, ◌≤◌}
+use Prim.Native.Nat.{ℕ, zero, suc, ◌+◌, ◌/◌, ◌%◌}
 use native.Mathlib.Omega.{arith}
 use native.Mathlib.Nat.{add-zero, zero-add}
 use lib.Dec.{lit<}
 use lib.ListN.{length, drop}
-use borrow.Author.Rules.{rules}
-use borrow.Author.Tests.{eqb-true, eqb-false, ne_eqb, not-true, not-false}
+use borrow.Author.Tests.{eqb-true, ne_eqb, not-true}
 use Rattle.std.specs.Prelude.{if◌then◌else◌}
 use Rattle.octets.specs.Choice.{◌is◌, ◌!◌, same}
 use Rattle.octets.specs.Bytes.{COMMA, ZERO, ANY, PAIRS}
 use Rattle.octets.specs.Carried.{is_small, capital}
 use Rattle.octets.proofs.Tests.{choice, by-test, or-in, split}
 use Rattle.octets.proofs.Capitals.{capital-other, capital-not-small, capital-again, capital-is}
-use Rattle.octets.proofs.SlicesLaws.{Alike, same-long, alike-start, alike-not, alike-on, alike_end}
+use Rattle.octets.proofs.SlicesLaws.{same-long}
+use Rattle.octets.proofs.Spots.{drop-on}
+use Rattle.std.specs.List.{range_with_len, list_all}
+use Rattle.std.proofs.Common.{drop_of_length-le}
 use Rattle.header.specs.Addressing.{is_address_char, char_fits, address_fits, pair_fits, any_fits, addressed, starts}
 use Rattle.header.specs.Header.{is_pair, is_pairs, is_sole, is_header}
 use Rattle.header.specs.Capitals.{capital_at, capitals_from, header_capitals, no_small_from, no_small}
@@ -85,7 +87,7 @@ module _ (h : List ℕ) where
   header-long = capitals-long 0 h
 
   -- a byte of them
-  header_at : (k : ℕ) → header_capitals h ! k ≡ capital_at k (h ! k)
+  pub header_at : (k : ℕ) → header_capitals h ! k ≡ capital_at k (h ! k)
   unfolding header_capitals
   header_at k = capitals-at 0 h k ∙ ap (λ (j : ℕ). capital_at j (h ! k)) (zero-add k)
 
@@ -174,34 +176,23 @@ module _ (h : List ℕ) where
   unfolding is_header
   header-same = rw (starts-same h, sole-same h, pairs-same PAIRS h)
 
--- ---- as the code tells them
+-- ---- two headers' capitals, place by place
 
-module _ (h : List ℕ) (i b : ℕ) (e : b ≡ h ! i) where
-  pub told-type : i % 4 ≡ 0 → b ≡ header_capitals h ! i
-  told-type z = e ∙ sym (header_at h i ∙ at-type i (h ! i) z)
-
-  pub told-other : (i % 4 ≡ 0 → ⊥) → (c : ℕ) → c ≡ capital b → c ≡ header_capitals h ! i
-  told-other n c f = f ∙ ap capital e ∙ sym (header_at h i ∙ at_other i (h ! i) n)
+-- two lists of one length, byte by byte
+same-from : (a b : List ℕ) (n i : ℕ) → i + n ≡ length a → length a ≡ length b
+    → list_all (λ k. a ! k is b ! k) (range_with_len i n) ≡ same (drop i a) (drop i b)
+unfolding same
+same-from a b zero i p q =
+    let x : drop i a ≡ [] = drop_of_length-le a (omega arith) in
+    let y : drop i b ≡ [] = drop_of_length-le b (omega arith) in
+    rw (x, y)
+same-from a b (suc n) i p q =
+    rw (drop-on a i (omega arith), drop-on b i (omega arith)) (ap (λ t. a ! i is b ! i && t) (same-from a b n (i + 1) (omega arith) q))
 
 module _ (h g : List ℕ) where
   pub caps-differ : (length h ≡ length g → ⊥) → false ≡ same (header_capitals h) (header_capitals g)
   caps-differ n = same-long (header_capitals h) (header_capitals g) (λ e. n (sym (header-long h) ∙ e ∙ header-long g))
 
-  pub caps-start : length h ≡ length g → Alike (header_capitals h) (header_capitals g) 0
-  caps-start e = alike-start (header_capitals h) (header_capitals g) (header-long h ∙ e ∙ sym (header-long g))
-
-  module _ (i : ℕ) (w : Alike (header_capitals h) (header_capitals g) i) where
-    module _ (l : i < length h) (b : Bool) (e : b ≡ (header_capitals h ! i is header_capitals g ! i)) where
-      within : i < length (header_capitals h)
-      within = rw (header-long h) l
-
-      pub caps-not : not b ≡ true → false ≡ same (header_capitals h) (header_capitals g)
-      caps-not f = alike-not w within (eqb-false (header_capitals h ! i) (header_capitals g ! i) (sym e ∙ not-true b f))
-
-      pub caps-on : not b ≡ false → Alike (header_capitals h) (header_capitals g) (i + 1)
-      caps-on f = alike-on w within (eqb-true (header_capitals h ! i) (header_capitals g ! i) (sym e ∙ not-false b f))
-
-    pub caps-end : length h ≤ i → true ≡ same (header_capitals h) (header_capitals g)
-    caps-end l = alike_end w (rw (header-long h) l)
-
-pub ruleset caps = (told-type, told-other, caps-differ, caps-start, caps-not, caps-on, caps-end, rules)
+  pub caps-all : length h ≡ length g
+      → list_all (λ i. header_capitals h ! i is header_capitals g ! i) (range_with_len 0 (length h)) ≡ same (header_capitals h) (header_capitals g)
+  caps-all e = same-from (header_capitals h) (header_capitals g) (length h) 0 (omega (arith, header-long h)) (header-long h ∙ e ∙ sym (header-long g))

@@ -8,6 +8,7 @@ use octets::hex::capital;
 use octets::slices::byte_at;
 
 // The byte at a place of a header's capitals; a byte that is missing counts as 0.
+#[tactic(auto, using(crate::proofs::CapitalsLaws::header_at), unfolding(crate::specs::Capitals::capital_at))]
 pub fn capital_at(h: &[u8], i: usize) -> u8
     ensures { result ≡ header_capitals h.now ! i }
 {
@@ -15,26 +16,9 @@ pub fn capital_at(h: &[u8], i: usize) -> u8
     if i % PITCH == 0 { b } else { capital(b) }
 }
 
-// Whether two headers have the same capital at a place.
-fn same_at(h: &[u8], g: &[u8], i: usize) -> bool
-    ensures { result ≡ (header_capitals h.now ! i is header_capitals g.now ! i) }
-{
-    capital_at(h, i) == capital_at(g, i)
-}
-
 // Whether two headers have the same capitals.
 pub fn same_capitals(h: &[u8], g: &[u8]) -> bool
     ensures { result ≡ same (header_capitals h.now) (header_capitals g.now) }
 {
-    if h.len() != g.len() {
-        return false;
-    }
-    let mut i = 0;
-    while i < h.len() {
-        if !same_at(h, g, i) {
-            return false;
-        }
-        i += 1;
-    }
-    true
+    h.len() == g.len() && (0..h.len()).all(|i| capital_at(h, i) == capital_at(g, i))
 }

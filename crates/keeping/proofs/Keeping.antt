@@ -7,18 +7,17 @@ use mathlib.Core.Bool.{Bool, true, false, not}
 use native.Mathlib.Omega.{arith}
 use lib.ListN.{length, take, drop}
 use borrow.Author.Tests.{ltb-false, eqb-true, eqb-false}
-use Rattle.std.specs.Prelude.{if◌then◌else◌}
+use Rattle.std.specs.Prelude.{Option, Some, None, if◌then◌else◌}
 use Rattle.octets.specs.Choice.{◌is◌, ◌isn't◌, ◌<?◌, ◌!◌, none, front}
 use Rattle.octets.specs.Bytes.{A, B, E, F, G, H, is_plain}
 use Rattle.octets.proofs.Tests.{choice, by-test, never}
 use Rattle.octets.proofs.Lists.{all_tail}
 use Rattle.body.specs.Body.{Block, is_read}
-use Rattle.board.specs.declared.Found.{Found}
-use Rattle.board.specs.declared.Found.TheVariants.{At, Nothing}
+use Rattle.board.specs.declared.Content.{Content}
 use Rattle.board.specs.declared.Settings.{Settings}
 use Rattle.register.specs.Register.{CLEARED, is_register}
 use Rattle.board.specs.Settings.{in_range, with_errors, cleared}
-use Rattle.board.specs.Files.{TEXT, STRING, File, files_of, heads}
+use Rattle.board.specs.Files.{content, TEXT, STRING, File, files_of, heads}
 use Rattle.board.specs.Board.{Board, with_settings, with_memory, files_on}
 use Rattle.board.specs.Soundness.{sound_memory, keeps_true, sound}
 use Rattle.board.proofs.Ranges.{range, errors-ranged}
@@ -36,7 +35,7 @@ use Rattle.configuration.specs.Configuration.{replaced, replace, configure}
 use Rattle.special.specs.Special.{CONFIGURATION, CLEAR, ERRORS, sets_address, set_by, write_special, is_told, tell, after_told, read_special}
 use Rattle.commands.specs.Blocks.{command, do_block, run_block}
 use Rattle.keeping.specs.Keeping.{file_in, configures, writes, clears, Keeps}
-use Rattle.keeping.proofs.Messages.{content, put-others, put-heads, holding-files, holding-length, holding-unused, holding-index, holding-sound}
+use Rattle.keeping.proofs.Messages.{padded, put-others, put-heads, holding-files, holding-length, holding-unused, holding-index, holding-sound}
 use Rattle.configuration.proofs.ConfigurationLaws.{replaced-length, replaced-sound}
 use Rattle.keeping.proofs.Changes.{Kept, set_keeps}
 use Rattle.special.proofs.TellLengths.{told-fits}
@@ -138,7 +137,7 @@ module _ (b : Board) (c : ℕ) where
       m : List ℕ
       m = b.memory
 
-      fit : (start size : ℕ) → find_on b label kind ≡ At start size → (size <? length msg) ≡ false →
+      fit : (start size : ℕ) → find_on b label kind ≡ Some (content start size) → (size <? length msg) ≡ false →
           Keeps b c (label ∷ msg) (done (with_memory b (holding m start size msg)))
       fit start size e q =
           let small : length msg ≤ size = ltb-false size (length msg) q in
@@ -165,10 +164,10 @@ module _ (b : Board) (c : ℕ) where
             others = λ x p s k o.
                 ap (λ (fs : List File). file_in fs k)
                 (holding-files n m s label kind start size e msg small (all_tail is_plain label msg p))
-                ∙ put-others (files_on b) label kind (content size msg) k o;
+                ∙ put-others (files_on b) label kind (padded size msg) k o;
             records = λ x p s.
                 ap heads (holding-files n m s label kind start size e msg small (all_tail is_plain label msg p))
-                ∙ put-heads (files_on b) label kind (content size msg);
+                ∙ put-heads (files_on b) label kind (padded size msg);
             refused = λ n. absurd (n refl);
             errors = λ n. rw z;
             read = λ r. never (sym r ∙ t);
@@ -176,11 +175,11 @@ module _ (b : Board) (c : ℕ) where
             fits = omega arith;
           }
 
-      go : (f : Found) → find_on b label kind ≡ f → Noted b c (label ∷ msg) (put_message b f msg)
-      go Nothing e = refuses (label ∷ msg) 23 (λ e. omega arith)
-      go (At start size) e =
-          choice (Noted b c (label ∷ msg)) (size <? length msg) (λ q. refuses (label ∷ msg) 24 (λ e. omega arith))
-          (λ q. as-done (label ∷ msg) (with_memory b (holding m start size msg)) [] (fit start size e q))
+      go : (f : Option Content) → find_on b label kind ≡ f → Noted b c (label ∷ msg) (put_message b f msg)
+      go None e = refuses (label ∷ msg) 23 (λ e. omega arith)
+      go (Some x) e =
+          choice (Noted b c (label ∷ msg)) (x.size <? length msg) (λ q. refuses (label ∷ msg) 24 (λ e. omega arith))
+          (λ q. as-done (label ∷ msg) (with_memory b (holding m x.start x.size msg)) [] (fit x.start x.size e q))
 
   write-effects : (kind : ℕ) (d : List ℕ) → writes c d ≡ true → is_read c ≡ false → clears c d ≡ false → Noted b c d (write_file kind b d)
   unfolding write_file
@@ -188,12 +187,12 @@ module _ (b : Board) (c : ℕ) where
   write-effects kind (label ∷ msg) w t z = puts label kind msg w t z
 
   -- ---- B and H
-  gets : (code : ℕ) (d : List ℕ) (label : ℕ) (f : Found) → is_read c ≡ true → clears c d ≡ false → Noted b c d (get_content code b label f)
+  gets : (code : ℕ) (d : List ℕ) (label : ℕ) (f : Option Content) → is_read c ≡ true → clears c d ≡ false → Noted b c d (get_content code b label f)
   unfolding get_content
-  gets code d label Nothing t z = refuses d 23 (λ e. omega arith)
-  gets code d label (At start size) t z =
-      let r = reply_of code label (front is_plain (take size (drop start b.memory))) in
-      rw z at (replies d r t (content-fits code label b.memory start size))
+  gets code d label None t z = refuses d 23 (λ e. omega arith)
+  gets code d label (Some x) t z =
+      let r = reply_of code label (front is_plain (take x.size (drop x.start b.memory))) in
+      rw z at (replies d r t (content-fits code label b.memory x.start x.size))
 
   read-effects : (kind code : ℕ) (d : List ℕ) → is_read c ≡ true → clears c d ≡ false → Noted b c d (read_file kind code b d)
   unfolding read_file

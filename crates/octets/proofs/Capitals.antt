@@ -2,7 +2,7 @@
 use mathlib.Core.Path.{◌≡◌, refl, sym, ap, ◌∙◌, subst}
 use mathlib.Core.Bool.{Bool, true, false, ◌||◌}
 use mathlib.Core.List.{List, [], ◌∷◌, ◌++◌}
-use Prim.Native.Nat.{ℕ, zero, suc, ◌+◌, ◌-◌, ◌/◌, ◌%◌, ◌<◌, ◌≤◌}
+use Prim.Native.Nat.{ℕ, zero, suc, ◌-◌, ◌/◌, ◌%◌, ◌<◌, ◌≤◌}
 use native.Mathlib.Omega.{arith}
 use borrow.Author.Rules.{rules}
 use borrow.Author.Tests.{le-leb, lt-leb, leb-true, lt-ltb, ne_eqb}
@@ -11,12 +11,9 @@ use Rattle.octets.specs.Choice.{◌is◌, ◌≤?◌, between, ◌!◌}
 use Rattle.octets.specs.Hex.{digit, value, is_hex, is_hex4, hex4, in_hex4}
 use Rattle.octets.specs.Carried.{is_small, capital, capitals, is_carried, is_carried4, carried4}
 use Rattle.octets.specs.InnerDigits.{two, two_of, four, four_of}
-use Rattle.octets.specs.declared.hex.Two.{Two}
-use Rattle.octets.specs.declared.hex.Two.TheVariants.{Bad}
-use Rattle.octets.specs.declared.hex.Four.{Four}
-use Rattle.octets.specs.declared.hex.Four.TheVariants.{Bad as Bad4}
+use Rattle.octets.proofs.Spots.{tail-whole}
 use Rattle.octets.proofs.Tests.{compare, by-test, and_right, or-none}
-use Rattle.octets.proofs.Digits.{digit-most, two-short, two-told, four-short, four-told, is_hex4-in_hex4, hex4-in_hex4}
+use Rattle.octets.proofs.Digits.{digit-most, two-told, four-told, is_hex4-in_hex4, hex4-in_hex4}
 
 -- ---- a byte
 
@@ -118,28 +115,15 @@ capitals-drop (suc i) (x ∷ l) = capitals-drop i l
 
 -- ---- digits in a frame, as the code tells them
 
-module _ (s : List ℕ) (i : ℕ) where
-  pub carried-two-short : i ≤ length s → length s - i < 2 → Bad ≡ two (capitals (drop i s))
-  carried-two-short l h = rw (capitals-drop i s) (two-short (capitals s) i (rw (capitals-length s) l) (rw (capitals-length s) h))
+pub carried-two-told : (l : List ℕ) → two_of (value (capital (l ! 0))) (value (capital (l ! 1))) ≡ two (capitals l)
+carried-two-told l = rw (← capitals-at l 0, ← capitals-at l 1) (two-told (capitals l))
 
-  pub carried-two-told : (a b : ℕ) → a ≡ value (capital (s ! i)) → b ≡ value (capital (s ! (i + 1))) → (r : Two) → r ≡ two_of a b
-      → r ≡ two (capitals (drop i s))
-  carried-two-told a b p q r e =
-      rw (capitals-drop i s)
-      (two-told (capitals s) i a b (p ∙ ap value (sym (capitals-at s i))) (q ∙ ap value (sym (capitals-at s (i + 1)))) r e)
-
-  pub carried-four-short : i ≤ length s → length s - i < 4 → Bad4 ≡ four (capitals (drop i s))
-  carried-four-short l h = rw (capitals-drop i s) (four-short (capitals s) i (rw (capitals-length s) l) (rw (capitals-length s) h))
-
-  pub carried-four-told : (a b c d : ℕ) → a ≡ value (capital (s ! i)) → b ≡ value (capital (s ! (i + 1)))
-      → c ≡ value (capital (s ! (i + 2))) → d ≡ value (capital (s ! (i + 3))) → (r : Four) → r ≡ four_of a b c d → r ≡ four (capitals (drop i s))
-  carried-four-told a b c d p q k t r e =
-      rw (capitals-drop i s)
-      (four-told (capitals s) i a b c d (p ∙ ap value (sym (capitals-at s i))) (q ∙ ap value (sym (capitals-at s (i + 1))))
-      (k ∙ ap value (sym (capitals-at s (i + 2)))) (t ∙ ap value (sym (capitals-at s (i + 3)))) r e)
+pub carried-four-told : (l : List ℕ)
+    → four_of (value (capital (l ! 0))) (value (capital (l ! 1))) (value (capital (l ! 2))) (value (capital (l ! 3))) ≡ four (capitals l)
+carried-four-told l = rw (← capitals-at l 0, ← capitals-at l 1, ← capitals-at l 2, ← capitals-at l 3) (four-told (capitals l))
 
 pub ruleset carried =
-    (capital-small, capital-below, capital-above, carried-told, carried-two-short, carried-two-told, carried-four-short, carried-four-told, rules)
+    (capital-small, capital-below, capital-above, carried-told, carried-two-told, carried-four-told, tail-whole, rules)
 
 -- ---- four digits that we write, and then l, as a frame carries them
 

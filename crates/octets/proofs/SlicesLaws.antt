@@ -1,21 +1,29 @@
 -- What holds while a loop goes along slices, and its steps.
 use mathlib.Core.Path.{◌≡◌, refl, sym, ap, ◌∙◌}
-use mathlib.Core.Bool.{Bool, true, false, not, ◌&&◌}
-use mathlib.Core.List.{List, [], ◌∷◌, ◌++◌}
-use Prim.Native.Nat.{ℕ, suc, ◌+◌, ◌-◌, ◌<◌, ◌≤◌}
+use mathlib.Core.Bool.{Bool, true, false, ◌&&◌}
+use mathlib.Core.List.{List, [], ◌∷◌}
+use Prim.Native.Nat.{ℕ, ◌+◌, ◌<◌, ◌≤◌, suc}
 use native.Mathlib.Omega.{arith}
 use borrow.Author.Rules.{rules}
-use borrow.Author.Tests.{eq-eqb, ne_eqb, le-leb, lt-leb, not-false}
 use lib.ListN.{length, take, drop, drop_of_length-le, length-take, length-drop, length-append}
-use lib.Seq.{drop-drop}
-use Rattle.octets.specs.Choice.{front, all, same, ◌is◌, ◌isn't◌, ◌≤?◌, ◌!◌}
-use Rattle.octets.specs.InnerEqual.{equals, differs}
-use Rattle.octets.specs.Bytes.{is_nul, is_plain}
-use Rattle.octets.proofs.Spots.{drop-on}
-use Rattle.octets.proofs.Tests.{and_none, and-some, and_assoc, equals-yes, equals-no}
-use Rattle.octets.proofs.Places.{front-split, end-go, end-stop, end-out}
+use lib.Pointwise.{pointwise}
+use lib.Dec.{eqb}
+use Rattle.octets.specs.Choice.{front, all, same, ◌is◌, ◌!◌, ◌≤?◌}
+use Rattle.octets.proofs.Spots.{drop-on, tail-whole}
+use Rattle.octets.proofs.Tests.{and-some, and_assoc, and_none}
+use Rattle.octets.proofs.Places.{front-split, front_length, front_out, end-go, end-stop, end-out}
+use borrow.Author.Tests.{eq-eqb, ne_eqb, le-leb, lt-leb}
+use Rattle.octets.specs.Bytes.{is_plain}
 
 -- ---- two slices, byte by byte
+
+-- two lists are the same by the library's test where they are by ours
+pub eq-same : (a b : List ℕ) → pointwise eqb a b ≡ same a b
+unfolding same
+eq-same [] [] = refl
+eq-same [] (y ∷ b) = refl
+eq-same (x ∷ a) [] = refl
+eq-same (x ∷ a) (y ∷ b) = ap (λ t. x is y && t) (eq-same a b)
 
 pub same-long : (a b : List ℕ) → (length a ≡ length b → ⊥) → false ≡ same a b
 unfolding same
@@ -74,36 +82,16 @@ module _ {p : ℕ → Bool} {s : List ℕ} {i k : ℕ} (g : Running p s i k) whe
   pub run_out : length s ≤ k → k ≡ i + length (front p (drop i s))
   run_out h = sym (end-out p s k h) ∙ g.ends
 
-  -- sixteen bytes at once
-  pub run-stride : 16 ≤ length s - k → (b : Bool) → b ≡ all p (take 16 (drop k s)) → not b ≡ false → Running p s i (k + 16)
-  run-stride h b e f =
-      let q : front p (drop k s) ≡ take 16 (drop k s) ++ front p (drop (k + 16) s) =
-      front-split p 16 (drop k s) (sym e ∙ not-false b f) ∙ ap (λ l. take 16 (drop k s) ++ front p l) (drop-drop 16 k s) in
-      record {
-        ends =
-            omega (arith, g.ends, ap length q, length-append (take 16 (drop k s)) (front p (drop (k + 16) s)), length-take 16 (drop k s), length-drop k s);
-      }
+pub ruleset running = (run-start, run_on, run-stop, run_out, rules)
 
-pub stride-part : (p : ℕ → Bool) (s : List ℕ) (k : ℕ) (b : Bool) → b ≡ all p (take (k + 16 - k) (drop k s)) → b ≡ all p (take 16 (drop k s))
-stride-part p s k b e = let z : k + 16 - k ≡ 16 = omega arith in rw z at e
+-- sixteen bytes that all pass, and how many pass behind them
+pub front-stride : (p : ℕ → Bool) (l t b : List ℕ) (r : Bool) → r ≡ all p t → r ≡ true → t ≡ take 16 l → b ≡ drop 16 l → length b + 16 ≡ length l
+    → length (front p l) ≡ 16 + length (front p b)
+front-stride p l t b r e n h k m =
+    let a : all p (take 16 l) ≡ true = ap (all p) (sym h) ∙ sym e ∙ n in
+    rw k (omega (arith, ap length (front-split p 16 l a), length-append (take 16 l) (front p (drop 16 l)), length-take 16 l, ap length k, m))
 
--- bytes that equal b
-module _ {s : List ℕ} {i b k : ℕ} (g : Running (equals b) s i k) where
-  pub equal-on : k < length s → s ! k ≡ b → Running (equals b) s i (k + 1)
-  equal-on h e = run_on g h (equals-yes (s ! k) b e)
-
-  pub equal-stop : k < length s → (s ! k ≡ b → ⊥) → k ≡ i + length (front (equals b) (drop i s))
-  equal-stop h n = run-stop g h (equals-no (s ! k) b n)
-
--- bytes other than b
-module _ {s : List ℕ} {i b k : ℕ} (g : Running (differs b) s i k) where
-  pub other-on : k < length s → (s ! k ≡ b → ⊥) → Running (differs b) s i (k + 1)
-  unfolding differs
-  other-on h n = run_on g h (rw (ne_eqb (s ! k) b n))
-
-  pub other-stop : k < length s → s ! k ≡ b → k ≡ i + length (front (differs b) (drop i s))
-  unfolding differs
-  other-stop h e = run-stop g h (rw (eq-eqb (s ! k) b e))
+pub ruleset fronts = (tail-whole, front_length, front_out, length-drop, rules)
 
 -- bytes 05H to FFH
 pub plain : (x : ℕ) → 5 ≤ x → is_plain x ≡ true
@@ -113,22 +101,6 @@ plain x h = le-leb 5 x h
 pub not_plain : (x : ℕ) → x < 5 → is_plain x ≡ false
 unfolding is_plain
 not_plain x h = lt-leb 5 x h
-
-module _ {s : List ℕ} {i k : ℕ} (g : Running is_plain s i k) where
-  pub plain-on : k < length s → 5 ≤ s ! k → Running is_plain s i (k + 1)
-  plain-on h e = run_on g h (plain (s ! k) e)
-
-  pub plain-stop : k < length s → s ! k < 5 → k ≡ i + length (front is_plain (drop i s))
-  plain-stop h e = run-stop g h (not_plain (s ! k) e)
-
-pub run_ends : {p : ℕ → Bool} {s : List ℕ} {i k : ℕ} → Running p s i k → k + length (front p (drop k s)) ≡ i + length (front p (drop i s))
-run_ends g = g.ends
-
-pub run-from : (p : ℕ → Bool) (s : List ℕ) (i k : ℕ) → k + length (front p (drop k s)) ≡ i + length (front p (drop i s)) → Running p s i k
-run-from p s i k e = record { ends = e }
-
-pub ruleset running =
-    (run-start, run_out, run-stride, run_ends, run-from, stride-part, equal-on, equal-stop, other-on, other-stop, plain-on, plain-stop, rules)
 
 -- ---- every byte, without an early end
 
@@ -152,20 +124,9 @@ module _ {p : ℕ → Bool} {s : List ℕ} {passed : Bool} {i : ℕ} (g : Testin
   unfolding all
   test-end h = sym (and-some passed refl) ∙ rw (drop_of_length-le s h) at g.tested
 
--- for 00H
-pub nul-next : {s : List ℕ} {passed : Bool} {i : ℕ} → Testing is_nul s passed i → i < length s → (b : Bool) → b ≡ (passed && s ! i is 0) → Testing is_nul s b (i + 1)
-unfolding is_nul
-nul-next g h b e = test-next g h b e
-
 -- for 05H to FFH
 pub plain-next : {s : List ℕ} {passed : Bool} {i : ℕ} → Testing is_plain s passed i → i < length s → (b : Bool) → b ≡ (passed && 5 ≤? s ! i) → Testing is_plain s b (i + 1)
 unfolding is_plain
 plain-next g h b e = test-next g h b e
 
--- for bytes other than b
-pub other-next : (b : ℕ) {s : List ℕ} {passed : Bool} {i : ℕ} → Testing (differs b) s passed i → i < length s → (t : Bool) → t ≡ (passed && s ! i isn't b)
-    → Testing (differs b) s t (i + 1)
-unfolding differs
-other-next b g h t e = test-next g h t e
-
-pub ruleset testing = (test-start, nul-next, plain-next, other-next, test-end, rules)
+pub ruleset testing = (test-start, test-next, test-end, rules)

@@ -1,5 +1,4 @@
 -- Laws of pixels and of the store.
 pub mod PixelsLaws
 pub mod Picturing
-pub mod StoreLaws
 pub mod Storing

@@ -1,16 +1,14 @@
 -- A pixel read, a pixel put, all of them tested.
 use Prim.Native.Nat.{ℕ, zero, suc, ◌+◌, ◌*◌, ◌/◌, ◌%◌, ◌<◌, ◌≤◌}
 use mathlib.Core.Path.{◌≡◌, refl, sym, ap, ◌∙◌}
-use mathlib.Core.Bool.{Bool, true, false, not, ◌&&◌}
+use mathlib.Core.Bool.{Bool, ◌&&◌}
 use mathlib.Core.List.{List, [], ◌∷◌}
 use native.Mathlib.Omega.{arith}
-use borrow.Author.Rules.{rules}
-use borrow.Author.Tests.{eq-eqb, ne_eqb, not-true, not-false}
 use lib.ListN.{length, drop, set}
 use Rattle.octets.specs.Choice.{◌!◌, ◌is◌, ◌≤?◌, all}
 use Rattle.octets.specs.Bytes.{is_nul}
 use Rattle.octets.proofs.Tests.{and_assoc, and-some}
-use Rattle.octets.proofs.SlicesLaws.{Testing, test-start, test-next, test-end}
+use Rattle.std.specs.List.{fold}
 use Rattle.pixels.specs.Pixels.{pixels_of, bytes_for, is_shade, sound_picture}
 use Rattle.pixels.specs.InnerHalves.{with_half, are_shades, Pixel}
 
@@ -48,14 +46,6 @@ read_lower s k b e h = record { read = rw e (sym (lower s k h)); small = omega a
 
 -- ---- a pixel put
 
-pub half-upper : (k x v : ℕ) → k % 2 ≡ 0 → v * 16 + x % 16 ≡ with_half k x v
-unfolding with_half
-half-upper k x v h = rw (eq-eqb (k % 2) 0 h)
-
-pub half-lower : (k x v : ℕ) → (k % 2 ≡ 0 → ⊥) → x / 16 * 16 + v ≡ with_half k x v
-unfolding with_half
-half-lower k x v h = rw (ne_eqb (k % 2) 0 h)
-
 -- only that pixel changes
 pub put-pixel : (s : List ℕ) (k v : ℕ) → v < 16 → pixels_of (set s (k / 2) (with_half k (s ! (k / 2)) v)) ≡ set (pixels_of s) k v
 unfolding pixels_of with_half
@@ -82,10 +72,11 @@ unfolding all pixels_of are_shades is_shade
 shades-all [] = refl
 shades-all (x ∷ s) = and_assoc (x / 16 ≤? 8) (x % 16 ≤? 8) (all are_shades s) ∙ ap (λ t. x / 16 ≤? 8 && (x % 16 ≤? 8 && t)) (shades-all s)
 
-pub shades-next : {s : List ℕ} {passed : Bool} {i : ℕ} → Testing are_shades s passed i → i < length s → (b : Bool) → b ≡ ((passed && s ! i / 16 ≤? 8) && s ! i % 16 ≤? 8)
-    → Testing are_shades s b (i + 1)
-unfolding are_shades
-shades-next {s} {passed} {i} g h b e = test-next g h b (e ∙ and_assoc passed (s ! i / 16 ≤? 8) (s ! i % 16 ≤? 8))
+-- a fold that keeps whether all passed so far
+pub fold_all : (p : ℕ → Bool) (s : List ℕ) (b : Bool) → fold (λ a x. a && p x) b s ≡ (b && all p s)
+unfolding all
+fold_all p [] b = sym (and-some b refl)
+fold_all p (x ∷ s) b = fold_all p s (b && p x) ∙ and_assoc b (p x) (all p s)
 
 -- at most one pixel is left
 spare : (l : List ℕ) (n : ℕ) → length l ≤ n + 1 → all is_nul (drop n l) ≡ (l ! n is 0)
@@ -96,12 +87,8 @@ spare (x ∷ []) zero h = and-some (x is 0) refl
 spare (x ∷ y ∷ l) zero h = absurd (omega arith)
 spare (x ∷ l) (suc n) h = spare l n (omega arith)
 
-pub sound-not : (n : ℕ) (s : List ℕ) (b : Bool) → b ≡ all are_shades s → not b ≡ true → false ≡ sound_picture n s
+pub sound-told : (n : ℕ) (s : List ℕ) → length s ≡ bytes_for n → sound_picture n s ≡ (all are_shades s && pixels_of s ! n is 0)
 unfolding sound_picture
-sound-not n s b e h = rw (← shades-all s, ← e, not-true b h)
+sound-told n s l = rw (← shades-all s) (ap (λ t. all are_shades s && t) (spare (pixels_of s) n (omega (arith, length-pixels s))))
 
-pub sound-spare : (n : ℕ) (s : List ℕ) (b : Bool) (p : ℕ) → length s ≡ bytes_for n → b ≡ all are_shades s → not b ≡ false → p ≡ pixels_of s ! n → (p is 0) ≡ sound_picture n s
-unfolding sound_picture
-sound-spare n s b p l e h r = rw (← shades-all s, ← e, not-false b h, r) (sym (spare (pixels_of s) n (omega (arith, length-pixels s))))
-
-pub ruleset laws = (read_upper, read_lower, half-upper, half-lower, put-told, test-start, test-end, shades-next, sound-not, sound-spare, rules)
+pub ruleset laws = (read_upper, read_lower, put-told, sound-told)

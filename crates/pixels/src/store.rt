@@ -10,10 +10,8 @@ pub fn sound_at(n: usize, store: &[u8], at: usize) -> bool
     requires { at ≤ length store.now }
     ensures { result ≡ (bytes_for n ≤? length (drop at store.now) && sound_picture n (take (bytes_for n) (drop at store.now))) }
 {
-    let long = bytes_for(n);
-    if store.len() - at < long {
-        return false;
+    match store[at..].get(..bytes_for(n)) {
+        Some(picture) => sound_picture(n, picture),
+        None => false,
     }
-    let end = at + long;
-    sound_picture(n, &store[at..end])
 }

@@ -1,7 +1,6 @@
--- What C is told of a frame, of a block, of a renewal and of a reading, case by case.
+-- Where C is told to go on, and what it is told of a renewal and of a reading of a temperature.
 use Prim.Native.Nat.{ℕ}
-use mathlib.Core.Path.{◌≡◌, refl, sym, ap, ap₂, ◌∙◌}
-use mathlib.Core.Bool.{Bool}
+use mathlib.Core.Path.{◌≡◌, refl, ap, ap₂, ◌∙◌}
 use mathlib.Core.List.{List}
 use lib.ListN.{length}
 use borrow.Author.Rules.{rules}
@@ -12,45 +11,13 @@ use mir.Facts.{to_z-of_z}
 use Rattle.body.specs.Readers.{place_behind}
 use Rattle.body.specs.declared.BlockStep.{BlockStep}
 use Rattle.body.specs.declared.BlockStep.TheVariants.{Stray, More, Last}
-use Rattle.reading.specs.Places.{Reads}
-use Rattle.reading.specs.declared.Read.{Read}
 use Rattle.signed.proofs.Held.{held}
 use Rattle.renewal.specs.Renewing.{renewal_date}
 use Rattle.renewal.specs.declared.Date.{Date}
 use Rattle.renewal.specs.declared.Renewed.{Renewed}
 use Rattle.temperature.specs.Correcting.{add_offset}
 use Rattle.temperature.specs.declared.Corrected.{Corrected}
-use Rattle.port.specs.Truth.{truth}
-use Rattle.port.specs.declared.Places.{Places}
-use Rattle.port.specs.declared.BlockPlaces.{BlockPlaces}
-use Rattle.port.specs.Blocks.{places_as, ReadsAs, block_places, block_as}
-
--- ---- yes or no
-pub told-truth : (x y : Bool) (v : ℕ) → x ≡ y → v ≡ truth x → v ≡ truth y
-told-truth x y v e p = rw (← e) p
-
-pub ruleset saying = (told-truth, rules)
-
--- ---- a step
-
--- y is what stands at the place, b the case of it that was found
-pub told-block : (s : List ℕ) (x y b : BlockStep) (v : BlockPlaces) → x ≡ y → x ≡ b → v ≡ block_as s b → v ≡ block_as s y
-told-block s x y b v e p q = q ∙ ap (block_as s) (sym p ∙ e)
-
--- whether the sum is right, as a number
-pub told-right : (k c i j n v w : ℕ) → v ≡ w → block_places k c v i j n ≡ block_places k c w i j n
-told-right k c i j n v w e = rw e
-
-pub ruleset stepping = (told-block, told-right, rules)
-
--- ---- a reading
-
--- y is the case of it that was answered
-module _ (s room after : List ℕ) (x : Read) (e : Reads s room x after) where
-  pub told-places : (y : Read) (r : Places) → x ≡ y → r ≡ places_as s y → ReadsAs s room r after
-  told-places y r p q = record { places = q ∙ ap (places_as s) (sym p ∙ e.places); left = e.left }
-
-pub ruleset reading = (told-places, rules)
+use Rattle.port.specs.Blocks.{block_as}
 
 -- ---- where the reader is left
 
@@ -58,8 +25,8 @@ pub ruleset reading = (told-places, rules)
 pub told-left : (s : List ℕ) (b : BlockStep) → (block_as s b).next ≡ place_behind b (length s)
 unfolding block_as place_behind
 told-left s Stray = refl
-told-left s (More c i j r n) = refl
-told-left s (Last c i j r) = refl
+told-left s (More b n) = refl
+told-left s (Last b) = refl
 
 -- ---- a renewal: the count is passed on as its bits
 

@@ -7,10 +7,10 @@ pub mod frames;
 pub mod renewals;
 pub mod signs;
 pub mod temperatures;
-mod truth;
 
 // What reading a frame tells C: a number; whether the frame is printable (1) or standard (0); how many bytes it stands for;
 // where its header and where its first block start among them.
+// Stays: C's interface, and so is the next.
 #[repr(C)]
 #[derive(Clone, Copy)]
 pub struct Places {

@@ -7,7 +7,6 @@ ghost use Rattle.sign.specs.Fresh.{making, fresh};
 ghost use Rattle.sign.specs.Run.{outcome, run};
 ghost use Rattle.port.specs.Truth.{truth};
 
-use crate::truth::truth;
 use board::Settings;
 use board::soundness::sound;
 use sign::errors::port_errors;
@@ -28,7 +27,7 @@ pub extern "C" fn pagozkin_fresh(own: u8, memory: &mut [u8]) -> Made
 pub extern "C" fn pagozkin_is_sound(settings: Settings, memory: &[u8]) -> u8
     ensures { result ≡ truth (sound (board settings memory.now)) }
 {
-    truth(sound(settings, memory))
+    u8::from(sound(settings, memory))
 }
 
 // Runs a frame on a board: 0, 1 to 9 or 28.

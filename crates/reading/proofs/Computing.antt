@@ -12,7 +12,6 @@ use Rattle.header.specs.Capitals.{capital_at, capitals_from, header_capitals, no
 use Rattle.body.specs.Sum.{sum_from, summed, checksum}
 use Rattle.body.specs.Body.{follow, after_etx, after_data, block_at, prepend, onward, blocks, is_read, read_not_last, has_read, all_right}
 use Rattle.body.specs.Steps.{placed, found_at, blocks_in, is_body}
-use Rattle.body.specs.InnerSurveying.{last_number, verdict}
 use Rattle.reading.specs.Translation.{push, translate_from, translate}
 use Rattle.reading.specs.Lead.{is_soh, nul_lead, soh_lead, lead_of}
 use Rattle.reading.specs.Reading.{not_stx, read_body, read_header, read_led, read_translated, read_printable, read_standard, read}
@@ -33,7 +32,7 @@ unfolding
     capital_at capitals_from header_capitals no_small_from no_small
     sum_from summed checksum
     follow after_etx after_data block_at prepend onward blocks is_read read_not_last has_read all_right
-    placed found_at blocks_in is_body last_number verdict
+    placed found_at blocks_in is_body
     push translate_from translate
     is_soh nul_lead soh_lead lead_of
     not_stx read_body read_header read_led read_translated read_printable read_standard read

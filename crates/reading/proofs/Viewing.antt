@@ -6,30 +6,31 @@ use Prim.Native.Nat.{ℕ, ◌+◌, ◌-◌, ◌<◌, ◌≤◌}
 use native.Mathlib.Omega.{arith}
 use borrow.Author.Tests.{eqb-true, ltb-false, ne_eqb, not-false}
 use lib.ListN.{length, take, drop, drop_of_length-le}
+use Rattle.std.specs.Prelude.{Result, Ok, Err}
 use Rattle.octets.specs.Choice.{◌is◌, ◌<?◌, ◌!◌, none, front, behind, part}
 use Rattle.octets.specs.Bytes.{NUL, SOH, ESCAPE, STANDARD, PRINTABLE, TRANSLATED, BLOCKS}
 use Rattle.octets.proofs.Tests.{compare, choice, never, or-in}
 use Rattle.header.specs.Header.{is_header}
-use Rattle.body.specs.Body.{Block, Body, bad_body, body as body_of, blocks, read_not_last}
+use Rattle.body.specs.Body.{Block, Body, bad_body, body as body_of, blocks, read_not_last, has_read, all_right}
 use Rattle.body.specs.Steps.{blocks_in, is_body, body_at, blocks_at}
-use Rattle.body.specs.InnerSurveying.{surveyed}
-use Rattle.body.specs.declared.surveying.Survey.{Survey}
+use Rattle.body.specs.InnerSurveying.{survey_as, text_bytes, surveyed}
 use Rattle.reading.specs.Translation.{Translation, untranslated, translated, translate}
 use Rattle.reading.specs.Lead.{Led, misled, led, lead_of}
 use Rattle.reading.specs.Reading.{Reading, refused, frame, not_stx, read_body, read_header, read_led}
 use Rattle.reading.specs.Reading.{read_translated, read_printable, read_standard, read}
-use Rattle.reading.specs.Places.{is_printable, behind_lead, header_in, places_of, read_places, bare_read, room_after, Reads}
-use Rattle.reading.specs.InnerParts.{part_places, parts_view}
+use Rattle.reading.specs.Places.{number_of, numbered, is_printable, behind_lead, header_in, places_of, read_places, bare_read, room_after, Reads}
+use Rattle.reading.specs.InnerParts.{parts_at, part_places, parts_view}
 use Rattle.reading.specs.declared.Read.{Read}
-use Rattle.reading.specs.declared.Read.TheVariants.{Refused, Standard, Printable}
+use Rattle.reading.specs.declared.Read.TheVariants.{Standard, Printable}
+use Rattle.reading.specs.declared.Refusal.{Refusal}
 use Rattle.reading.specs.declared.reading.Parts.{Parts}
-use Rattle.reading.specs.declared.reading.Parts.TheVariants.{At as PartsAt}
-use Rattle.reading.proofs.Rooms.{header-standard, stands-printable, header-printable, laid-front, laid-bytes, laid-roomed, read-as-other}
+use Rattle.reading.proofs.Rooms.{header-standard, stands-printable, header-printable, laid-front, laid-bytes, laid-roomed, read-as-other, ok-is}
 use Rattle.reading.proofs.Parting.{head-text, rest_from, EndsLed, lead-ends}
 
 -- a frame whose bytes are t reads as r: its header starts at place i, its body at place j
 pub record Stands (t : List ℕ) (i j : ℕ) (r : Reading) : Type 0 where
   pub blocks-list : List Block
+  pub last : read_not_last false blocks-list ≡ false
   pub body : blocks BLOCKS (drop j t) ≡ body_of blocks-list
   pub reads : r ≡ frame (part i j t) blocks-list
   pub header : is_header (part i j t) ≡ true
@@ -68,6 +69,7 @@ module _ (t : List ℕ) (i : ℕ) (s : length t ≤ 8192) where
       choice (StandsAt t i) (read_not_last false bs) (λ y. tt)
       (λ y. record {
         blocks-list = bs;
+        last = y;
         body = rw (← z) e;
         reads = ap (λ x. frame x bs) (head-text t i j refl);
         header = rw (← head-text t i j refl) g;
@@ -107,10 +109,10 @@ pub record Printed (room : List ℕ) (n i j : ℕ) (r : Reading) : Type 0 where
   pub stands : Stands (take n room) i j r
 
 -- what places say of the reading
-abbrev pub PlacesOf : List ℕ → List ℕ → Read → Type 0
-PlacesOf s room (Refused n) = read s ≡ refused n
-PlacesOf s room (Standard i j) = Stands s i j (read s)
-PlacesOf s room (Printable n i j) = Printed (room_after s room) n i j (read s)
+abbrev pub PlacesOf : List ℕ → List ℕ → Result Read ℕ → Type 0
+PlacesOf s room (Err n) = read s ≡ refused n
+PlacesOf s room (Ok (Standard i j)) = Stands s i j (read s)
+PlacesOf s room (Ok (Printable n i j)) = Printed (room_after s room) n i j (read s)
 
 module _ (s room : List ℕ) where
   abbrev Said : Reading → Type 0
@@ -171,70 +173,75 @@ module _ (s room : List ℕ) where
 
 -- ---- for callers, case by case
 
-pub places-refused : (s : List ℕ) (n : ℕ) → read_places s ≡ Refused n → read s ≡ refused n
+pub places-refused : (s : List ℕ) (n : ℕ) → read_places s ≡ Err n → read s ≡ refused n
 places-refused s n e = rw e at (places-of s [])
 
-pub places-standard : (s : List ℕ) (i j : ℕ) → read_places s ≡ Standard i j → Stands s i j (read s)
+pub places-standard : (s : List ℕ) (i j : ℕ) → read_places s ≡ Ok (Standard i j) → Stands s i j (read s)
 places-standard s i j e = rw e at (places-of s [])
 
-pub places-printable : (s room : List ℕ) (n i j : ℕ) → read_places s ≡ Printable n i j → Printed (room_after s room) n i j (read s)
+pub places-printable : (s room : List ℕ) (n i j : ℕ) → read_places s ≡ Ok (Printable n i j) → Printed (room_after s room) n i j (read s)
 places-printable s room n i j e = rw e at (places-of s room)
 
 -- the same of what a call promises
-module _ {s room after : List ℕ} {answer : Read} (g : Reads s room answer after) where
-  pub reads-refused : {n : ℕ} → answer ≡ Refused n → read s ≡ refused n
-  reads-refused {n} e = places-refused s n (sym g.places ∙ e)
+module _ {s room after : List ℕ} {answer : Result Read Refusal} (g : Reads s room answer after) where
+  pub reads-refused : {e : Refusal} → answer ≡ Err e → read s ≡ refused (number_of e)
+  reads-refused {e} f = places-refused s (number_of e) (sym g.places ∙ ap numbered f)
 
-  pub reads-standard : {i j : ℕ} → answer ≡ Standard i j → Stands s i j (read s)
-  reads-standard {i} {j} e = places-standard s i j (sym g.places ∙ e)
+  pub reads-standard : {i j : ℕ} → answer ≡ Ok (Standard i j) → Stands s i j (read s)
+  reads-standard {i} {j} f = places-standard s i j (sym g.places ∙ ap numbered f)
 
-  pub reads-printable : {n i j : ℕ} → answer ≡ Printable n i j → Printed after n i j (read s)
-  reads-printable {n} {i} {j} e = rw g.left (places-printable s room n i j (sym g.places ∙ e))
+  pub reads-printable : {n i j : ℕ} → answer ≡ Ok (Printable n i j) → Printed after n i j (read s)
+  reads-printable {n} {i} {j} f = rw g.left (places-printable s room n i j (sym g.places ∙ ap numbered f))
 
   -- what lending that many bytes of the room asks
-  pub reads-within : {n i j : ℕ} → answer ≡ Printable n i j → n ≤ length after
-  reads-within e = (reads-printable e).within
+  pub reads-within : {n i j : ℕ} → answer ≡ Ok (Printable n i j) → n ≤ length after
+  reads-within f = (reads-printable f).within
 
-  pub reads-counts : {n i j : ℕ} → answer ≡ Printable n i j → n ≡ length (take n after)
-  reads-counts e = (reads-printable e).counts
+  pub reads-counts : {n i j : ℕ} → answer ≡ Ok (Printable n i j) → n ≡ length (take n after)
+  reads-counts f = (reads-printable f).counts
 
 -- of a reading without a room, where the frame is not printable
-module _ (s : List ℕ) (p : is_printable s ≡ false) {answer : Read} (e : answer ≡ bare_read s) where
+module _ (s : List ℕ) (p : is_printable s ≡ false) {answer : Result Read Refusal} (e : numbered answer ≡ bare_read s) where
   bare-reads : Reads s [] answer []
   bare-reads = read-as-other s false (sym p) [] refl answer e
 
-  pub bare-refused : {n : ℕ} → answer ≡ Refused n → read s ≡ refused n
+  pub bare-refused : {x : Refusal} → answer ≡ Err x → read s ≡ refused (number_of x)
   bare-refused f = reads-refused bare-reads f
 
-  pub bare-standard : {i j : ℕ} → answer ≡ Standard i j → Stands s i j (read s)
+  pub bare-standard : {i j : ℕ} → answer ≡ Ok (Standard i j) → Stands s i j (read s)
   bare-standard f = reads-standard bare-reads f
 
   -- no byte has a place in no room
-  pub bare-never {ℓ} : {X : Type ℓ} {n i j : ℕ} → answer ≡ Printable n i j → X
+  pub bare-never {ℓ} : {X : Type ℓ} {n i j : ℕ} → answer ≡ Ok (Printable n i j) → X
   bare-never f = let w = reads-printable bare-reads f in absurd (omega (arith, w.stands.inside, w.within, w.counts))
 
 -- ---- parts
 
 -- a frame whose bytes are t stands so, and this is known of its blocks
-pub record Told (t : List ℕ) (i j : ℕ) (v : Survey) (r : Reading) : Type 0 where
-  pub stands : Stands t i j r
-  pub seen : v ≡ surveyed (blocks BLOCKS (drop j t))
+pub record Told (t : List ℕ) (p : Parts) (r : Reading) : Type 0 where
+  pub stands : Stands t p.header p.body r
+  pub seen : surveyed (blocks BLOCKS (drop p.body t)) ≡ Ok p.seen
 
 module _ (printable : Bool) (t : List ℕ) where
-  view-parts : (x : Reading) → StandsAt t (header_in printable t) x → parts_view t (part_places printable t x) ≡ x
-  unfolding parts_view part_places
-  view-parts (refused n) w = refl
-  view-parts (frame h bs) w = sym (stands-frame w)
+  view-parts : (x : Reading) → StandsAt t (header_in printable t) x → (q : Result Parts Refusal) → numbered q ≡ part_places printable t x → parts_view t q ≡ x
+  unfolding parts_view parts_at
+  view-parts (refused n) w (Ok p) e = absurd (cc)
+  view-parts (refused n) w (Err x) e = let z : number_of x ≡ n = cc in ap refused z
+  view-parts (frame h bs) w (Ok p) e =
+      let a : p.header ≡ header_in printable t = ap (λ v. v.header) (ok-is e) in
+      let b : p.body ≡ header_in printable t + length h = ap (λ v. v.body) (ok-is e) in
+      rw (a, b) (sym (stands-frame w))
+  view-parts (frame h bs) w (Err x) e = absurd (cc)
 
-  told-parts : (x : Reading) → StandsAt t (header_in printable t) x → (i j : ℕ) (v : Survey) → part_places printable t x ≡ PartsAt i j v → Told t i j v x
-  unfolding part_places
-  told-parts (refused n) w i j v d = let z : ◌≡◌ {A = ℕ} 0 1 = cc in absurd (omega arith)
-  told-parts (frame h bs) w i j v d =
-      let a : header_in printable t ≡ i = cc in
-      let b : header_in printable t + length h ≡ j = cc in
-      let c : surveyed (body_of bs) ≡ v = cc in
+  told-parts : (x : Reading) → StandsAt t (header_in printable t) x → (p : Parts) → Ok p ≡ part_places printable t x → Told t p x
+  unfolding parts_at surveyed
+  told-parts (refused n) w p e = absurd (cc)
+  told-parts (frame h bs) w p e =
+      let a : p.header ≡ header_in printable t = ap (λ v. v.header) (ok-is e) in
+      let b : p.body ≡ header_in printable t + length h = ap (λ v. v.body) (ok-is e) in
+      let c : p.seen ≡ survey_as (has_read bs) (all_right bs) (length bs) (text_bytes bs) = ap (λ v. v.seen) (ok-is e) in
       let z : w.blocks-list ≡ bs = listed w.reads in
-      record { stands = rw (← b, ← a) w; seen = sym c ∙ rw (← b, w.body, z) }
+      record { stands = rw (b, a) w; seen = rw (b, w.body, z, c, rw z at w.last) }
     where
       listed : {g h : List ℕ} {bs cs : List Block} → frame g bs ≡ frame h cs → cs ≡ bs
       listed e = cc
@@ -248,17 +255,17 @@ standard-stands s p =
     (λ e. choice (StandsAt s (header_in false s)) (STANDARD <? length s) (λ l. tt) (λ l. stands-part false s (ltb-false STANDARD (length s) l)))
     (λ n. rw p tt))
 
-module _ (s : List ℕ) (p : is_printable s ≡ false) {q : Parts} (e : q ≡ part_places false s (read s)) where
+module _ (s : List ℕ) (p : is_printable s ≡ false) (q : Result Parts Refusal) (e : numbered q ≡ part_places false s (read s)) where
   pub standard-view : parts_view s q ≡ read s
-  standard-view = rw e (view-parts false s (read s) (standard-stands s p))
+  standard-view = view-parts false s (read s) (standard-stands s p) q e
 
-  pub standard-told : {i j : ℕ} {v : Survey} → q ≡ PartsAt i j v → Told s i j v (read s)
-  standard-told {i} {j} {v} f = told-parts false s (read s) (standard-stands s p) i j v (sym e ∙ f)
+  pub standard-told : {x : Parts} → q ≡ Ok x → Told s x (read s)
+  standard-told {x} f = told-parts false s (read s) (standard-stands s p) x (sym (ap numbered f) ∙ e)
 
 -- the bytes that a printable one stands for
-module _ (t : List ℕ) (l : length t ≤ 8192) {q : Parts} (e : q ≡ part_places true t (read_led (lead_of true t))) where
+module _ (t : List ℕ) (l : length t ≤ 8192) (q : Result Parts Refusal) (e : numbered q ≡ part_places true t (read_led (lead_of true t))) where
   pub room-view : parts_view t q ≡ read_led (lead_of true t)
-  room-view = rw e (view-parts true t (read_led (lead_of true t)) (stands-part true t l))
+  room-view = view-parts true t (read_led (lead_of true t)) (stands-part true t l) q e
 
-  pub room-told : {i j : ℕ} {v : Survey} → q ≡ PartsAt i j v → Told t i j v (read_led (lead_of true t))
-  room-told {i} {j} {v} f = told-parts true t (read_led (lead_of true t)) (stands-part true t l) i j v (sym e ∙ f)
+  pub room-told : {x : Parts} → q ≡ Ok x → Told t x (read_led (lead_of true t))
+  room-told {x} f = told-parts true t (read_led (lead_of true t)) (stands-part true t l) x (sym (ap numbered f) ∙ e)

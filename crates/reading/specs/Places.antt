@@ -1,5 +1,5 @@
 -- Where a frame's header and blocks stand: what a reading answers, and what it leaves in the room that it is lent.
-use Rattle.std.specs.Prelude.{ℕ, ◌+◌, ◌-◌, ◌≡◌, Bool, List, [], length, if◌then◌else◌}
+use Rattle.std.specs.Prelude.{ℕ, ◌+◌, ◌-◌, ◌≡◌, Bool, List, [], length, if◌then◌else◌, Result, Ok, Err}
 use Rattle.octets.specs.Choice.{◌is◌, ◌<?◌, ◌!◌}
 use Rattle.octets.specs.Bytes.{ESCAPE, PRINTABLE, TRANSLATED}
 use Rattle.octets.specs.Buffer.{overlay}
@@ -7,7 +7,23 @@ use Rattle.reading.specs.Translation.{Translation, untranslated, translated, tra
 use Rattle.reading.specs.Lead.{Led, misled, led, lead_of}
 use Rattle.reading.specs.Reading.{Reading, refused, frame, read}
 use Rattle.reading.specs.declared.Read.{Read}
-use Rattle.reading.specs.declared.Read.TheVariants.{Refused, Standard, Printable}
+use Rattle.reading.specs.declared.Read.TheVariants.{Standard, Printable}
+use Rattle.reading.specs.declared.Refusal.{Refusal}
+use Rattle.reading.specs.declared.Refusal.TheVariants.{WrongLength, WrongLead, BadPrintable, BadHeader, BadBody, ReadNotLast}
+
+-- the document's number of a refusal
+abbrev pub number_of : Refusal → ℕ
+number_of WrongLength = 3
+number_of WrongLead = 4
+number_of BadPrintable = 5
+number_of BadHeader = 6
+number_of BadBody = 7
+number_of ReadNotLast = 8
+
+-- an answer, its refusal told by the number
+abbrev pub numbered : {A : Type 0} → Result A Refusal → Result A ℕ
+numbered (Ok x) = Ok x
+numbered (Err e) = Err (number_of e)
 
 -- "5FH: printable"
 abbrev pub is_printable : List ℕ → Bool
@@ -35,19 +51,19 @@ unfoldable pub header_place : List ℕ → ℕ
 header_place s = header_in (is_printable s) (stands_for s)
 
 -- a refusal's number; or how many bytes there are (in the room, for a printable frame), where the header starts and where the first block does
-unfoldable pub places_of : List ℕ → Reading → Read
-places_of s (refused n) = Refused n
+unfoldable pub places_of : List ℕ → Reading → Result Read ℕ
+places_of s (refused n) = Err n
 places_of s (frame h bs) =
-    if is_printable s then Printable (length (stands_for s)) (header_place s) (header_place s + length h)
-    else Standard (header_place s) (header_place s + length h)
+    if is_printable s then Ok (Printable (length (stands_for s)) (header_place s) (header_place s + length h))
+    else Ok (Standard (header_place s) (header_place s + length h))
 
 -- what a reading answers
-unfoldable pub read_places : List ℕ → Read
+unfoldable pub read_places : List ℕ → Result Read ℕ
 read_places s = places_of s (read s)
 
 -- what it answers without a room: to it the first byte of a printable frame is a wrong one
-unfoldable pub bare_read : List ℕ → Read
-bare_read s = if is_printable s then Refused 4 else read_places s
+unfoldable pub bare_read : List ℕ → Result Read ℕ
+bare_read s = if is_printable s then Err 4 else read_places s
 
 -- the room afterwards: a printable frame's bytes at its start, where it has no fault and they fit; else as it was
 unfoldable pub fill : List ℕ → Translation → List ℕ
@@ -60,6 +76,6 @@ room_after s room =
     else room
 
 -- what a reading of s with a room promises: its answer, and the room after it
-pub record Reads (s room : List ℕ) (answer : Read) (after : List ℕ) : Type 0 where
-  pub places : answer ≡ read_places s
+pub record Reads (s room : List ℕ) (answer : Result Read Refusal) (after : List ℕ) : Type 0 where
+  pub places : numbered answer ≡ read_places s
   pub left : after ≡ room_after s room

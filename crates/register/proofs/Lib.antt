@@ -1,3 +1,2 @@
 -- Laws of the serial error status register.
-pub mod Bits
 pub mod Noting

@@ -1,7 +1,5 @@
 -- Setting bits: once more is no change, the order does not matter, no other bit changes, and the fixed bits stay.
-use Prim.Native.Nat.{ℕ, zero, suc, ◌/◌, ◌%◌, ◌^◌, ◌≤◌, ◌<◌, max}
-use native.Mathlib.Nat.{div-eq_of_lt}
-use lib.Pow.{pow_mono}
+use Prim.Native.Nat.{ℕ, zero, suc, ◌%◌, ◌≤◌, ◌<◌, max}
 use mathlib.Core.Path.{◌≡◌, refl, sym, ap, ◌∙◌}
 use mathlib.Core.Bool.{Bool, true, not}
 use native.Mathlib.Omega.{arith}
@@ -12,7 +10,13 @@ use Rattle.octets.specs.Choice.{between}
 use Rattle.octets.proofs.Ranges.{on}
 use Rattle.octets.proofs.Tests.{by-test}
 use Rattle.register.specs.Register.{bit, is_register, noted, driven_by}
-use Rattle.register.proofs.Bits.{or_assoc, or-bit}
+use Rattle.std.proofs.lemmas.Nat.Bits.{bit_at_or, bit_at_above, same_from_bits}
+
+-- which two of three come first does not matter: bit by bit
+or_assoc : (a b c : ℕ) → bit_or (bit_or a b) c ≡ bit_or a (bit_or b c)
+or_assoc a b c =
+    same_from_bits (bit_or (bit_or a b) c) (bit_or a (bit_or b c))
+    (λ i. simp bit_at_or (omega arith))
 
 -- setting bits again changes nothing
 pub again : (r m : ℕ) → noted (noted r m) m ≡ noted r m
@@ -25,15 +29,15 @@ either_order r m n = or_assoc r m n ∙ ap (bit_or r) (or_comm m n) ∙ sym (or_
 module _ (r m k : ℕ) where
   -- a bit that is asked for is set
   pub set-bit : bit m k ≡ 1 → bit (noted r m) k ≡ 1
-  set-bit h = or-bit r m k ∙ rw h (omega arith)
+  set-bit h = bit_at_or r m k ∙ rw h (omega arith)
 
   -- every other one is as it was
   pub others-kept : bit m k ≡ 0 → bit (noted r m) k ≡ bit r k
-  others-kept h = or-bit r m k ∙ rw h (omega arith)
+  others-kept h = bit_at_or r m k ∙ rw h (omega arith)
 
   -- and one that is set stays so
   pub set-stays : bit r k ≡ 1 → bit (noted r m) k ≡ 1
-  set-stays h = or-bit r m k ∙ rw h (omega arith)
+  set-stays h = bit_at_or r m k ∙ rw h (omega arith)
 
 -- "Always 0" and "Always 1", whatever is set below them
 pub fixed_kept : (r m : ℕ) → m < 64 → is_register r ≡ true → is_register (noted r m) ≡ true
@@ -62,20 +66,14 @@ low_bit b (suc zero) h = omega arith
 low_bit b (suc (suc zero)) h = omega arith
 low_bit b (suc (suc (suc k))) h = absurd (omega arith)
 
-no-bit : (x k : ℕ) → x < 8 → 3 ≤ k → bit x k ≡ 0
-no-bit x k h g =
-    let p : 2 ^ 3 ≤ 2 ^ k = pow_mono g in
-    let q : x / 2 ^ k ≡ 0 = div-eq_of_lt (omega arith) in
-    rw q
-
 module _ (r b k : ℕ) where
   -- each of parity, framing and time-out that the byte has is set, and one that it lacks stays as it was
   pub driver-sets : k < 3 → bit (driven_by r b) k ≡ max (bit r k) (bit b k)
-  driver-sets h = rw (driver-bits r b, or-bit r (b % 8) k, low_bit b k h)
+  driver-sets h = rw (driver-bits r b, bit_at_or r (b % 8) k, low_bit b k h)
 
   -- "ignores other bits"
   pub driver-ignores : 3 ≤ k → bit (driven_by r b) k ≡ bit r k
-  driver-ignores h = rw (driver-bits r b) (others-kept r (b % 8) k (no-bit (b % 8) k (omega arith) h))
+  driver-ignores h = rw (driver-bits r b) (others-kept r (b % 8) k (bit_at_above (b % 8) 3 k (omega arith) h))
 
 pub driver-fixed : (r b : ℕ) → is_register r ≡ true → is_register (driven_by r b) ≡ true
 driver-fixed r b e = rw (driver-bits r b) (fixed_kept r (b % 8) (omega arith) e)

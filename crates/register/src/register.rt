@@ -22,6 +22,7 @@ const PARITY: u8 = 0x01;
 pub const CLEARED: u8 = 0x40;
 
 // "Always 0" and "Always 1": bits 7 and 6.
+#[tactic(auto, unfolding(crate::specs::Register::is_register))]
 pub fn is_register(register: u8) -> bool
     ensures { result ≡ is_register register }
 {

@@ -1,7 +1,6 @@
 -- Laws of renewal dates.
 pub mod TableLaws
 pub mod Numbered
-pub mod Counted
 pub mod RenewingLaws
 pub mod Inside
 pub mod InTurn

@@ -156,3 +156,6 @@ module _ (a b : Date) (e : exists a ≡ true) (f : exists b ≡ true) (h : day_n
       let z : days_before (month_number a) ≡ days_before (month_number b) = ap days_before same-month in
       let d : a.day ≡ b.day = omega (arith, z, from-day a e, from-day b f) in
       by_parts a b y m d
+
+-- how far numbers of existing dates go
+pub ruleset numbered = (from-year, from-month, from-day, month-below, day-most)

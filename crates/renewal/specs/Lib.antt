@@ -5,3 +5,4 @@ pub mod Days
 pub mod Stays
 pub mod Following
 pub mod Order
+pub mod InnerTold

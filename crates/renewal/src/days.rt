@@ -3,7 +3,7 @@ ghost use Rattle.std.specs.Prelude.{◌≡◌};
 ghost use Rattle.renewal.specs.Days.{weekday, days_between};
 
 use crate::counting::{day_number, exists};
-use crate::numbers::NO_DATE;
+use crate::numbers::Refusal;
 use crate::{Date, DayOfWeek, DaysApart};
 
 // 1 January 2000 is the seventh day of its week, so 6 days of that week are before it.
@@ -12,12 +12,14 @@ const BEFORE: u16 = 6;
 const WEEK: u16 = 7;
 
 // The weekday, 1 Sunday to 7 Saturday: 0, or 30.
+// Stays: here and below there is one test and one refusal, so a Result between would only add a function that tells it to C.
+#[tactic(auto, using(crate::proofs::Numbered::numbered), unfolding(crate::specs::Days::weekday))]
 pub fn weekday(date: Date) -> DayOfWeek
     ensures { result ≡ weekday date }
 {
     if !exists(date) {
         return DayOfWeek {
-            number: NO_DATE,
+            number: Refusal::NoDate as u8,
             weekday: 0,
         };
     }
@@ -29,18 +31,18 @@ pub fn weekday(date: Date) -> DayOfWeek
 }
 
 // The days from the first date to the second, negative when the second is earlier: 0, or 30.
+#[tactic(auto, using(crate::proofs::Numbered::numbered), unfolding(crate::specs::Days::days_between))]
 pub fn days_between(first: Date, second: Date) -> DaysApart
     ensures { result ≡ days_between first second }
 {
-    let both = exists(first) & exists(second);
-    if !both {
+    if !exists(first) || !exists(second) {
         return DaysApart {
-            number: NO_DATE,
+            number: Refusal::NoDate as u8,
             days: 0,
         };
     }
-    let from = day_number(first) as i32;
-    let to = day_number(second) as i32;
+    let from = i32::from(day_number(first));
+    let to = i32::from(day_number(second));
     DaysApart {
         number: 0,
         days: to - from,

@@ -17,6 +17,7 @@ pub struct Date {
 }
 
 // What a renewal answers.
+// Stays: C's interface has the number beside the date; inside, a renewal is a Result.
 #[repr(C)]
 #[derive(Clone, Copy)]
 pub struct Renewed {
@@ -25,6 +26,7 @@ pub struct Renewed {
 }
 
 // What is answered of a date's weekday: 1 Sunday to 7 Saturday.
+// Stays: C's interface, and so is the next.
 #[repr(C)]
 #[derive(Clone, Copy)]
 pub struct DayOfWeek {

@@ -2,15 +2,15 @@
 use Prim.Native.Nat.{ℕ, zero, suc, ◌+◌, ◌-◌, ◌≤◌}
 use mathlib.Core.Path.{◌≡◌, refl, sym, ap, ◌∙◌}
 use mathlib.Core.Bool.{true}
-use mathlib.Core.List.{List, [], ◌∷◌, ◌++◌, append-nil}
+use mathlib.Core.List.{List, [], ◌∷◌, ◌++◌}
 use native.Mathlib.Nat.{le_refl, zero-add}
 use native.Mathlib.Omega.{arith}
 use borrow.Author.Tests.{eqb-true}
 use lib.ListN.{length, drop, set}
-use lib.Seq.{sets, sets-eq, set-get_or, get_or-set_other, drop-length}
+use lib.Seq.{sets, sets-eq, set-get_or, get_or-set_other}
 use Rattle.octets.specs.Choice.{◌!◌, all}
 use Rattle.octets.specs.Bytes.{is_nul}
-use Rattle.octets.specs.Buffer.{zeros, splice}
+use Rattle.octets.specs.Buffer.{zeros}
 use Rattle.octets.proofs.Buffers.{length-zeros, drop-zeros}
 use Rattle.octets.proofs.Lists.{all_head, all_tail}
 
@@ -45,8 +45,3 @@ off_set l at v o k h = get_or-set_other l at k v 0 (λ e. omega arith) ∙ o k (
 -- a list put over zeros
 pub sets-zeros : (xs : List ℕ) (m : ℕ) → length xs ≤ m → sets (zeros m) 0 xs ≡ xs ++ zeros (m - length xs)
 sets-zeros xs m h = sets-eq xs (zeros m) 0 (rw length-zeros (omega arith)) ∙ ap (λ r. xs ++ r) (ap (λ k. drop k (zeros m)) (zero-add (length xs)) ∙ drop-zeros (length xs) m)
-
--- the whole of a list replaced by zeros
-pub splice-zeros : (l : List ℕ) (n : ℕ) → n ≡ length l → splice l 0 (zeros n) ≡ zeros n
-unfolding splice
-splice-zeros l n e = rw (length-zeros n, zero-add n, e, drop-length l) (append-nil (zeros (length l)))

@@ -8,10 +8,10 @@ use borrow.Author.Rules.{rules}
 use borrow.Author.Tests.{not-true, not-false}
 use mir.Val.{Fits}
 use mir.Syntax.{w64}
-use lib.ListN.{length, drop, set}
+use lib.ListN.{length, drop, set, replicate}
 use Rattle.octets.specs.Choice.{◌!◌, between}
 use Rattle.octets.specs.Bytes.{ZERO}
-use Rattle.octets.specs.Buffer.{zeros, splice}
+use Rattle.octets.specs.Buffer.{zeros}
 use Rattle.octets.proofs.Tests.{suc-less-one}
 use Rattle.octets.proofs.Buffers.{length-zeros}
 use Rattle.pixels.specs.Pixels.{pixels_of, bytes_of, bytes_for}
@@ -20,7 +20,7 @@ use Rattle.rows.specs.Rows.{LF, CR, without_feeds, is_pixel, well_formed, drawn}
 use Rattle.rows.specs.InnerDrawn.{Judged}
 use Rattle.rows.proofs.Texts.{feed-go, feed-stay, feed-end, form-end, form-on, form-bad, form-past, form-none}
 use Rattle.rows.proofs.Onward.{onward-drawn, length-drawn}
-use Rattle.rows.proofs.Offs.{zeros-at, splice-zeros}
+use Rattle.rows.proofs.Offs.{zeros-at}
 use Rattle.rows.proofs.Here.{Here, good-pixel, pixel-between, here-rows, here-fits, here-row, here-skip, here-set, here_end}
 
 -- ---- judged
@@ -79,10 +79,11 @@ pub record Drawing (h w : ℕ) (s store : List ℕ) (left room at i : ℕ) : Typ
   pub here : Here h w (drawn h w (without_feeds s)) store left room at (without_feeds (drop i s))
 
 -- every pixel was turned off
-pub draw-start : (h w : ℕ) (s store₀ store : List ℕ) (k : ℕ) → Judged h w s store₀ → k ≡ length store₀ → store ≡ splice store₀ 0 (zeros k) → Drawing h w s store h w 0 0
-draw-start h w s store₀ store k j e f =
+pub draw-start : (h w : ℕ) (s store₀ store : List ℕ) → Judged h w s store₀ → store ≡ replicate (length store₀) 0 → Drawing h w s store h w 0 0
+unfolding zeros
+draw-start h w s store₀ store j f =
     let n = bytes_for (h * w) in
-    let z : store ≡ zeros n = f ∙ splice-zeros store₀ k e ∙ ap zeros (e ∙ j.room.long) in
+    let z : store ≡ zeros n = f ∙ ap zeros j.room.long in
     let p : pixels_of store ≡ zeros (n * 2) = ap pixels_of z ∙ pixels-zeros n in
     record {
       here = record {
@@ -118,9 +119,6 @@ module _ {h w : ℕ} {s store : List ℕ} {left room at i : ℕ} (g : Drawing h 
     pub draw-next : Fits w64 (at + 1)
     draw-next = omega (arith, draw-fits)
 
-    pub draw-row : s ! i ≡ CR → (k : ℕ) → k ≡ at + room → Drawing h w s store (left - 1) w k (i + 1)
-    draw-row e k f = record { here = rw f (here-row left room at (s ! i) (without_feeds (drop (i + 1) s)) byte-here e) }
-
     module _ (m : s ! i ≡ CR → ⊥) where
       in_between : (ZERO ≤ s ! i) × (s ! i ≤ 0x38)
       in_between = pixel-between (s ! i) (good-pixel left (s ! i) (without_feeds (drop (i + 1) s)) byte-here.good m)
@@ -136,5 +134,10 @@ module _ {h w : ℕ} {s store : List ℕ} {left room at i : ℕ} (g : Drawing h 
 
       pub draw-set : (room ≡ 0 → ⊥) → (store' : List ℕ) → pixels_of store' ≡ set (pixels_of store) at (s ! i - ZERO) → Drawing h w s store' left (room - 1) (at + 1) (i + 1)
       draw-set k store' e = record { here = here-set left room at (s ! i) (without_feeds (drop (i + 1) s)) byte-here m k store' e }
+
+  pub draw-row : i < length s → s ! i ≡ CR → (k : ℕ) → k ≡ at + room → Drawing h w s store (left - 1) w k (i + 1)
+  draw-row p e k f =
+      let n : (s ! i ≡ LF → ⊥) = λ l. omega (arith, e) in
+      record { here = rw f (here-row left room at (s ! i) (without_feeds (drop (i + 1) s)) (byte-here p n) e) }
 
 pub ruleset drawing = (draw-start, draw-end, draw-long, draw-feed, draw-rows, draw-fits, draw-next, draw-row, draw-low, draw-small, draw-skip, draw-set, rules)

@@ -1,5 +1,5 @@
 -- For contracts of inner functions only: what a call wants of a text, of a picture's bytes and of a buffer.
-use Rattle.std.specs.Prelude.{◌≡◌, ℕ, ◌+◌, ◌*◌, ◌≤◌, true, List, length}
+use Rattle.std.specs.Prelude.{◌≡◌, ℕ, ◌*◌, ◌≤◌, true, List, length}
 use Rattle.pixels.specs.Pixels.{bytes_for}
 use Rattle.rows.specs.Rows.{without_feeds, well_formed}
 
@@ -12,8 +12,3 @@ pub record Picture (h w : ℕ) (s : List ℕ) : Type 0 where
 pub record Judged (h w : ℕ) (text s : List ℕ) : Type 0 where
   pub room : Picture h w s
   pub good : well_formed h (without_feeds text) ≡ true
-
--- n pixels from pixel k on have room from a place of a buffer on; the place is not before k, so no number of a pixel grows too large
-pub record Room (out : List ℕ) (at k n : ℕ) : Type 0 where
-  pub fits : at + n ≤ length out
-  pub low : k ≤ at

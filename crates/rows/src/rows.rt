@@ -4,8 +4,6 @@ ghost use Rattle.pixels.specs.Pixels.{bytes_of};
 ghost use Rattle.rows.specs.Rows.{without_feeds, well_formed, drawn};
 ghost use Rattle.rows.specs.InnerDrawn.{Judged};
 
-use buffers::copying::zero_at;
-use octets::hex::is_between;
 use pixels::set_pixel;
 
 const LF: u8 = 0x0A;
@@ -14,26 +12,18 @@ const LF: u8 = 0x0A;
 pub const CR: u8 = 0x0D;
 
 // Whether a text is one of so many rows: "other bytes, and any but line feeds past the last row's CR, are malformed".
+#[tactic(auto, using(crate::proofs::RowsLaws::judging))]
 pub fn well_formed(rows: usize, text: &[u8]) -> bool
     ensures { result ≡ well_formed rows (without_feeds text.now) }
 {
     let mut left = rows;
-    let mut i = 0;
-    while i < text.len() {
-        let b = text[i];
-        i += 1;
-        if b == LF {
-            continue;
-        }
-        if left == 0 {
-            return false;
-        }
-        if b == CR {
-            left -= 1;
-            continue;
-        }
-        if !is_between(b'0', b'8', b) {
-            return false;
+    for b in text {
+        match *b {
+            LF => {}
+            _ if left == 0 => return false,
+            CR => left -= 1,
+            b'0'..=b'8' => {}
+            _ => return false,
         }
     }
     true
@@ -49,33 +39,30 @@ fn next_row(at: usize, room: usize) -> usize
 
 // A judged text drawn into a picture's bytes. They are cleared first: so "short rows filled with "0"" and "Missing rows are off" need
 // no pixel put. `at` is the next pixel and `room` what is left of its row. `left`, the rows to go, is for the proof: no compiler keeps it.
+#[tactic(auto, using(crate::proofs::RowsLaws::drawing))]
 pub fn draw(rows: usize, columns: usize, text: &[u8], picture: &mut [u8])
     requires { Judged rows columns text.now picture.old }
     ensures { picture.new ≡ bytes_of (drawn rows columns (without_feeds text.now)) }
 {
-    let long = picture.len();
-    zero_at(picture, 0, long);
+    picture.fill(0);
     let mut left = rows;
     let mut room = columns;
     let mut at = 0;
-    let mut i = 0;
-    while i < text.len() {
-        let b = text[i];
-        i += 1;
-        if b == LF {
-            continue;
+    for b in text {
+        let b = *b;
+        match b {
+            LF => {}
+            CR => {
+                at = next_row(at, room);
+                room = columns;
+                left -= 1;
+            }
+            _ if room == 0 => {}
+            _ => {
+                set_pixel(picture, at, b - b'0');
+                at += 1;
+                room -= 1;
+            }
         }
-        if b == CR {
-            at = next_row(at, room);
-            room = columns;
-            left -= 1;
-            continue;
-        }
-        if room == 0 {
-            continue;
-        }
-        set_pixel(picture, at, b - b'0');
-        at += 1;
-        room -= 1;
     }
 }

@@ -5,37 +5,35 @@ use mathlib.Core.Bool.{Bool, true, false, not, ◌&&◌}
 use mathlib.Core.List.{List}
 use native.Mathlib.Omega.{arith}
 use borrow.Author.Rules.{rules}
-use borrow.Author.Tests.{eq-eqb, ne_eqb, lt-ltb, le-ltb, ltb-false, not-true, not-false}
+use borrow.Author.Tests.{ne_eqb, lt-ltb, le-ltb, ltb-false, not-true, not-false}
 use lib.ListN.{length, take}
-use Rattle.std.specs.Prelude.{if◌then◌else◌}
+use Rattle.std.specs.Prelude.{Result, Ok, Err, if◌then◌else◌}
 use Rattle.octets.specs.Choice.{◌is◌, ◌<?◌, part}
 use Rattle.octets.proofs.Tests.{by-test}
 use Rattle.header.specs.Addressing.{addressed, starts}
 use Rattle.body.specs.Body.{Block}
 use Rattle.body.specs.Steps.{blocks_at}
 use Rattle.reading.specs.Reading.{refused, frame, read}
-use Rattle.reading.specs.Places.{is_printable, bare_read, Reads}
+use Rattle.reading.specs.Places.{number_of, numbered, is_printable, bare_read, Reads}
 use Rattle.reading.specs.declared.Read.{Read}
-use Rattle.reading.specs.declared.Read.TheVariants.{Refused, Standard, Printable}
+use Rattle.reading.specs.declared.Read.TheVariants.{Standard, Printable}
+use Rattle.reading.specs.declared.Refusal as reading
 use Rattle.frame.proofs.Standing.{Standing, refused-reads, standard-stands, printable-stands, room_within, room-counts}
 use Rattle.frame.proofs.Standing.{bare-refused, bare-stands, bare-never}
 use Rattle.board.specs.Board.{Board}
 use Rattle.board.specs.Soundness.{sound}
-use Rattle.board.specs.declared.Settings.{Settings}
 use Rattle.board.proofs.Inside.{sound-most}
 use Rattle.effects.specs.Reply.{reply_room}
 use Rattle.effects.specs.InnerLeaving.{Ready}
 use Rattle.effects.proofs.ReplyLengths.{room_as}
 use Rattle.configuration.specs.Starting.{START-MEMORY, started}
 use Rattle.sign.specs.Run.{nothing, Outcome, outcome, untouched, run_blocks, begun, run_frame, run}
-use Rattle.sign.specs.InnerRunning.{answer_as, Running, Framed, admission}
-use Rattle.sign.specs.declared.Tally.{Tally}
+use Rattle.sign.specs.InnerRunning.{number, answer_as, Running, Framed, admission}
+use Rattle.sign.specs.declared.Refusal.{Refusal}
+use Rattle.sign.specs.declared.Refusal.TheVariants.{NotSound, ReplyTooShort, NotAddressed, WrongType, WrongMemory, MemoryTooSmall}
 use Rattle.sign.specs.declared.Answer.{Answer}
 use Rattle.sign.proofs.RunLaws.{run-unsound, run_short}
 use Rattle.sign.proofs.Beginning.{begun-keeps}
-
-pub untouched-as : (n : ℕ) (s : Settings) (u : Tally) → u ≡ nothing → answer_as n u s ≡ answer_as n nothing s
-untouched-as n s u e = ap (λ (x : Tally). answer_as n x s) e
 
 -- ---- 9, 28, or 0: why a frame is not run
 
@@ -65,15 +63,24 @@ admitted b o h bs n e =
     (λ a. rw (e, a))
 
 -- where it is 0, a board that starts has memory for it
-pub large-enough : (own address : ℕ) (h : List ℕ) (room n : ℕ) → n ≡ admission own address h room → n ≡ 0 → starts h ≡ true → START-MEMORY ≤ room
+pub large-enough : (own address : ℕ) (h : List ℕ) (room : ℕ) → 0 ≡ admission own address h room → starts h ≡ true → START-MEMORY ≤ room
 unfolding admission
-large-enough own address h room n e f s =
+large-enough own address h room e s =
     by-test (addressed own address h)
     (λ a.
     by-test (room <? START-MEMORY)
-    (λ c. let no : n ≡ 28 = rw (a, s, c) at e in absurd (omega arith))
+    (λ c. let no : 0 ≡ 28 = rw (a, s, c) at e in absurd (omega arith))
     (ltb-false room START-MEMORY))
-    (λ a. let no : n ≡ 9 = rw a at e in absurd (omega arith))
+    (λ a. let no : 0 ≡ 9 = rw a at e in absurd (omega arith))
+
+-- a refusal's number is not 0
+pub some-number : (x : Refusal) → number x ≡ 0 → ⊥
+some-number NotSound e = omega arith
+some-number ReplyTooShort e = omega arith
+some-number NotAddressed e = omega arith
+some-number WrongType e = omega arith
+some-number WrongMemory e = omega arith
+some-number MemoryTooSmall e = omega arith
 
 -- ---- the board before the first block
 
@@ -115,18 +122,21 @@ pub ruleset running = (begun-sound, begun-running, begun-ran, rules)
 
 -- ---- a frame that was read
 
-module _ (b : Board) (o t : List ℕ) (i j n : ℕ) (e : n ≡ admission b.settings.own b.settings.address (part i j t) (length b.memory)) where
+module _ (b : Board) (o t : List ℕ) (i j : ℕ) where
   -- 9, 28
-  pub frame_refused : (n ≡ 0 → ⊥) → (r : Answer) → r ≡ answer_as n nothing b.settings → (m : List ℕ) → m ≡ b.memory →
+  pub frame_refused : (x : Refusal) → number x ≡ admission b.settings.own b.settings.address (part i j t) (length b.memory) → (n : ℕ) → n ≡ number x →
+      (r : Answer) → r ≡ answer_as n nothing b.settings → (m : List ℕ) → m ≡ b.memory →
       outcome r m o ≡ run_frame b o (frame (part i j t) (blocks_at t j))
-  frame_refused f r q m k = rw (q, k) (sym (admitted b o (part i j t) (blocks_at t j) n e ∙ rw (ne_eqb n 0 f)))
+  frame_refused x e n p r q m k =
+      rw (q, k, p)
+      (sym (admitted b o (part i j t) (blocks_at t j) (number x) e ∙ rw (ne_eqb (number x) 0 (some-number x))))
 
   -- 0
-  pub frame-ran : n ≡ 0 → (r : Answer) (m' o' : List ℕ) →
+  pub frame-ran : 0 ≡ admission b.settings.own b.settings.address (part i j t) (length b.memory) → (r : Answer) (m' o' : List ℕ) →
       outcome r m' o' ≡ run_blocks (untouched 0 (begun b (part i j t)) o) (blocks_at t j) → outcome r m' o' ≡ run_frame b o (frame (part i j t) (blocks_at t j))
-  frame-ran f r m' o' w = w ∙ sym (admitted b o (part i j t) (blocks_at t j) n e ∙ rw (eq-eqb n 0 f))
+  frame-ran e r m' o' w = w ∙ sym (admitted b o (part i j t) (blocks_at t j) 0 e)
 
-pub ruleset framing = (untouched-as, large-enough, frame_refused, frame-ran, rules)
+pub ruleset framing = (large-enough, frame_refused, frame-ran, rules)
 
 -- ---- a board that is ready
 
@@ -139,51 +149,66 @@ module _ {b : Board} {o : List ℕ} (y : Ready b o) (f : List ℕ) where
       outcome r m' o' ≡ run_frame b o (frame (part i j t) (blocks_at t j)) → outcome r m' o' ≡ run_frame b o (read f)
   answered w r m' o' q = q ∙ sym (ap (run_frame b o) w.reads)
 
-  refuses : {n : ℕ} → read f ≡ refused n → (r : Answer) → r ≡ answer_as n nothing b.settings → (m : List ℕ) → m ≡ b.memory → outcome r m o ≡ run_frame b o (read f)
+  refuses : {e : ℕ} → read f ≡ refused e → (n : ℕ) → n ≡ e → (r : Answer) → r ≡ answer_as n nothing b.settings → (m : List ℕ) → m ≡ b.memory → outcome r m o ≡ run_frame b o (read f)
   unfolding run_frame
-  refuses h r q m k = rw (q, k, h)
+  refuses h n p r q m k = rw (q, k, h, p)
 
-  module _ {room after : List ℕ} {x : Read} (g : Reads f room x after) where
+  module _ {room after : List ℕ} {x : Result Read reading.Refusal} (g : Reads f room x after) where
     -- 3 to 8
-    pub roomed-refused : {n : ℕ} → x ≡ Refused n → (r : Answer) → r ≡ answer_as n nothing b.settings → (m : List ℕ) → m ≡ b.memory → outcome r m o ≡ run_frame b o (read f)
-    roomed-refused h = refuses (refused-reads g h)
+    pub roomed-refused : {e : reading.Refusal} → x ≡ Err e → (n : ℕ) → n ≡ number_of e → (r : Answer) → r ≡ answer_as n nothing b.settings → (m : List ℕ) → m ≡ b.memory → outcome r m o ≡ run_frame b o (read f)
+    roomed-refused h n k = refuses (refused-reads g h) n k
 
     -- a standard frame
-    module _ {i j : ℕ} (h : x ≡ Standard i j) where
+    module _ {v : Read} {i j : ℕ} (q : x ≡ Ok v) (z : v ≡ Standard i j) where
+      stands : Standing f i j (read f)
+      stands = standard-stands g (q ∙ ap Ok z)
+
       pub standard-parted : Framed b o f i j
-      standard-parted = parted (standard-stands g h)
+      standard-parted = parted stands
 
       pub standard-ran : (r : Answer) (m' o' : List ℕ) → outcome r m' o' ≡ run_frame b o (frame (part i j f) (blocks_at f j)) →
           outcome r m' o' ≡ run_frame b o (read f)
-      standard-ran = answered (standard-stands g h)
+      standard-ran = answered stands
 
     -- a printable one
-    module _ {n i j : ℕ} (h : x ≡ Printable n i j) where
+    module _ {v : Read} {n i j : ℕ} (q : x ≡ Ok v) (z : v ≡ Printable n i j) where
+      printed : x ≡ Ok (Printable n i j)
+      printed = q ∙ ap Ok z
+
+      pub printable-within : n ≤ length after
+      printable-within = room_within g printed
+
+      pub printable-counts : n ≡ length (take n after)
+      printable-counts = room-counts g printed
+
       pub printable-parted : Framed b o (take n after) i j
-      printable-parted = parted (printable-stands g h)
+      printable-parted = parted (printable-stands g printed)
 
       pub printable-ran : (r : Answer) (m' o' : List ℕ) →
           outcome r m' o' ≡ run_frame b o (frame (part i j (take n after)) (blocks_at (take n after) j)) → outcome r m' o' ≡ run_frame b o (read f)
-      printable-ran = answered (printable-stands g h)
+      printable-ran = answered (printable-stands g printed)
 
   -- the same without a room
-  module _ (p : is_printable f ≡ false) {x : Read} (e : x ≡ bare_read f) where
-    pub bare-none : {n : ℕ} → x ≡ Refused n → (r : Answer) → r ≡ answer_as n nothing b.settings → (m : List ℕ) → m ≡ b.memory → outcome r m o ≡ run_frame b o (read f)
-    bare-none h = refuses (bare-refused f p e h)
+  module _ (p : is_printable f ≡ false) {x : Result Read reading.Refusal} (e : numbered x ≡ bare_read f) where
+    pub bare-none : {v : reading.Refusal} → x ≡ Err v → (n : ℕ) → n ≡ number_of v → (r : Answer) → r ≡ answer_as n nothing b.settings → (m : List ℕ) → m ≡ b.memory → outcome r m o ≡ run_frame b o (read f)
+    bare-none h n k = refuses (bare-refused f p e h) n k
 
-    module _ {i j : ℕ} (h : x ≡ Standard i j) where
+    module _ {v : Read} {i j : ℕ} (q : x ≡ Ok v) (z : v ≡ Standard i j) where
+      bare-standing : Standing f i j (read f)
+      bare-standing = bare-stands f p e (q ∙ ap Ok z)
+
       pub bare-parted : Framed b o f i j
-      bare-parted = parted (bare-stands f p e h)
+      bare-parted = parted bare-standing
 
       pub bare-ran : (r : Answer) (m' o' : List ℕ) → outcome r m' o' ≡ run_frame b o (frame (part i j f) (blocks_at f j)) →
           outcome r m' o' ≡ run_frame b o (read f)
-      bare-ran = answered (bare-stands f p e h)
+      bare-ran = answered bare-standing
 
-    pub bare-nothing : {n i j : ℕ} → x ≡ Printable n i j → (r : Answer) (m : List ℕ) → outcome r m o ≡ run_frame b o (read f)
-    bare-nothing h r m = bare-never f p e h
+    pub bare-nothing : {v : Read} {n i j : ℕ} → x ≡ Ok v → v ≡ Printable n i j → (r : Answer) (m : List ℕ) → outcome r m o ≡ run_frame b o (read f)
+    bare-nothing q z r m = bare-never f p e (q ∙ ap Ok z)
 
 pub ruleset readied =
-    (roomed-refused, standard-parted, standard-ran, printable-parted, printable-ran, bare-none, bare-parted, bare-ran, bare-nothing, room_within, room-counts, rules)
+    (roomed-refused, standard-parted, standard-ran, printable-parted, printable-ran, bare-none, bare-parted, bare-ran, bare-nothing, printable-within, printable-counts, rules)
 
 -- ---- a whole run
 

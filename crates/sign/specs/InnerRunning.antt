@@ -1,23 +1,34 @@
 -- For contracts of inner functions only: what the parts of a run need and answer, by the definitions.
-use Rattle.std.specs.Prelude.{ℕ, ◌+◌, ◌≤◌, ◌<◌, ◌≡◌, Bool, true, false, not, ◌&&◌, List, length, if◌then◌else◌}
+use Rattle.std.specs.Prelude.{ℕ, ◌+◌, ◌≤◌, ◌<◌, ◌≡◌, true, not, ◌&&◌, List, length, Result, Ok, Err, if◌then◌else◌}
 use Rattle.octets.specs.Choice.{◌<?◌}
 use Rattle.octets.specs.Bytes.{BLOCKS}
 use Rattle.header.specs.Addressing.{addressed, starts}
-use Rattle.body.specs.Body.{Block}
 use Rattle.body.specs.Steps.{body_at}
-use Rattle.board.specs.Settings.{with_errors}
-use Rattle.board.specs.Board.{Board, with_settings, with_memory}
+use Rattle.board.specs.Board.{Board}
 use Rattle.board.specs.declared.Settings.{Settings}
-use Rattle.effects.specs.Reply.{reply_room}
 use Rattle.effects.specs.InnerLeaving.{Ready}
 use Rattle.configuration.specs.Starting.{START-MEMORY}
-use Rattle.commands.specs.Blocks.{run_block}
-use Rattle.commands.specs.InnerDoing.{is_special, Indexed, OfBoard}
-use Rattle.sign.specs.Run.{outcome_as, onto}
+use Rattle.sign.specs.Run.{Outcome}
 use Rattle.sign.specs.declared.Tally.{Tally}
 use Rattle.sign.specs.declared.Answer.{Answer}
 use Rattle.sign.specs.declared.Made.{Made}
-use Rattle.sign.specs.declared.run.Noted.{Noted}
+use Rattle.sign.specs.declared.Refusal.{Refusal}
+use Rattle.sign.specs.declared.Refusal.TheVariants.{NotSound, ReplyTooShort, NotAddressed, WrongType, WrongMemory, MemoryTooSmall}
+
+-- the document's number of a refusal: 1 "board not sound", 2 "reply buffer shorter than memory plus 64", 9 "not addressed", 10 and 11 "fresh
+-- board: wrong type; wrong memory length", request 11, 28: "memory below 4,186 bytes"
+abbrev pub number : Refusal → ℕ
+number NotSound = 1
+number ReplyTooShort = 2
+number NotAddressed = 9
+number WrongType = 10
+number WrongMemory = 11
+number MemoryTooSmall = 28
+
+-- 0 where it is none
+abbrev pub number_in : Result (Unit {0}) Refusal → ℕ
+number_in (Ok x) = 0
+number_in (Err e) = number e
 
 -- what the making of a fresh board answers
 abbrev pub made_as : ℕ → Settings → Made
@@ -27,23 +38,10 @@ made_as n s = record { number = n; settings = s }
 abbrev pub answer_as : ℕ → Tally → Settings → Answer
 answer_as n t s = record { number = n; tally = t; settings = s }
 
--- E or F may be run: the board is ready, and fewer blocks than a frame has were run before
-pub record Runnable (b : Board) (u : Tally) (o : List ℕ) (code : ℕ) : Type 0 where
-  pub ready : Ready b o
-  pub few : u.done + u.refused < BLOCKS
-  pub special : is_special code true ≡ true
-
--- and so may any other block, for which the index of a board is enough
-pub record Fileable (p : List ℕ) (u : Tally) (m o : List ℕ) (code : ℕ) (right : Bool) : Type 0 where
-  pub board : OfBoard p m
-  pub room : reply_room m ≤ length o
-  pub few : u.done + u.refused < BLOCKS
-  pub other : is_special code right ≡ false
-
--- what that leaves of every sound board of this index, this memory and this register: another register, memory, reply buffer, counts
-pub record Leaves (p : List ℕ) (errors : ℕ) (u : Tally) (m o : List ℕ) (k : Block) (r : Noted) (m' o' : List ℕ) : Type 0 where
-  pub on : (b : Board) → Indexed p m b → b.settings.errors ≡ errors →
-      outcome_as 0 r.tally (with_memory (with_settings b (with_errors b.settings r.errors)) m') o' ≡ onto (outcome_as 0 u b o) (run_block b k)
+-- one block more may be run: the board is ready, and fewer blocks than a frame has were run before
+pub record Runnable (x : Outcome) : Type 0 where
+  pub ready : Ready x.after x.reply
+  pub few : x.tally.done + x.tally.refused < BLOCKS
 
 -- a good body stands at a place, and the board is ready
 pub record Running (b : Board) (o t : List ℕ) (from : ℕ) : Type 0 where

@@ -1,10 +1,9 @@
 // Making a fresh board: "10, 11".
 ghost use Rattle.std.specs.Prelude.{◌≡◌};
 ghost use Rattle.sign.specs.Fresh.{making, all_zero, fresh_settings, fresh};
-ghost use Rattle.sign.specs.InnerRunning.{made_as};
+ghost use Rattle.sign.specs.InnerRunning.{number, made_as};
 
-use crate::Made;
-use crate::numbers::{WRONG_MEMORY, WRONG_TYPE};
+use crate::{Made, Refusal};
 use board::Settings;
 use board::index::NOWHERE;
 use board::setting::{FORMAT_S, OFF};
@@ -14,27 +13,29 @@ use frame::is_own_type;
 use register::CLEARED;
 
 // "settings from 10 or 11 all zero"
-fn unmade(number: u8) -> Made
-    ensures { result ≡ made_as number all_zero }
+const ALL_ZERO: Settings = Settings {
+    hour: 0,
+    minute: 0,
+    month: 0,
+    day: 0,
+    year: 0,
+    format: 0,
+    speaker: 0,
+    address: 0,
+    own: 0,
+    files: 0,
+    unused: 0,
+    places: [0; 95],
+    offset: 0,
+    errors: 0,
+};
+
+fn unmade(refusal: Refusal) -> Made
+    ensures { result ≡ made_as (number refusal) all_zero }
 {
     Made {
-        number,
-        settings: Settings {
-            hour: 0,
-            minute: 0,
-            month: 0,
-            day: 0,
-            year: 0,
-            format: 0,
-            speaker: 0,
-            address: 0,
-            own: 0,
-            files: 0,
-            unused: 0,
-            places: [0; 95],
-            offset: 0,
-            errors: 0,
-        },
+        number: refusal.number(),
+        settings: ALL_ZERO,
     }
 }
 
@@ -46,20 +47,15 @@ fn made(own: u8, unused: u16) -> Made
     Made {
         number: 0,
         settings: Settings {
-            hour: 0,
-            minute: 0,
             month: 1,
             day: 1,
-            year: 0,
             format: FORMAT_S,
             speaker: OFF,
-            address: 0,
             own,
-            files: 0,
             unused,
             places: [NOWHERE; 95],
-            offset: 0,
             errors: CLEARED,
+            ..ALL_ZERO
         },
     }
 }
@@ -69,11 +65,11 @@ pub fn fresh(own: u8, m: &mut [u8]) -> Made
     ensures { making result m.new ≡ fresh own m.old }
 {
     if !is_own_type(own) {
-        return unmade(WRONG_TYPE);
+        return unmade(Refusal::WrongType);
     }
     let n = m.len();
     if !is_memory(n) {
-        return unmade(WRONG_MEMORY);
+        return unmade(Refusal::WrongMemory);
     }
     zero_at(m, 0, n);
     made(own, n as u16)

@@ -5,10 +5,27 @@ use board::Settings;
 
 pub mod errors;
 pub mod fresh;
-pub mod numbers;
+mod numbers;
 pub mod run;
 
+// Why a frame is not run, a board is not made or the port driver's call is not done; 3 to 8 are a reading's, 20 to 27 a block's.
+#[derive(Clone, Copy, PartialEq, Eq)]
+pub enum Refusal {
+    // "board not sound"
+    NotSound = 1,
+    // "reply buffer shorter than memory plus 64"
+    ReplyTooShort = 2,
+    // "not addressed"
+    NotAddressed = 9,
+    // "fresh board: wrong type; wrong memory length"
+    WrongType = 10,
+    WrongMemory = 11,
+    // request 11: "memory below 4,186 bytes"
+    MemoryTooSmall = 28,
+}
+
 // Blocks done, blocks refused, the place (from 1) and number of the first refused, and the reply's length.
+// Stays: C's interface, here and in the three below, has numbers; inside, a refusal is an enum.
 #[repr(C)]
 #[derive(Clone, Copy)]
 pub struct Tally {

@@ -1,4 +1,3 @@
 -- Laws of signed numbers.
 pub mod Held
-pub mod PlainLaws
 pub mod FloorLaws

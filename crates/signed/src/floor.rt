@@ -1,5 +1,5 @@
-// "signed month counts, floor division and remainder by 12 with negative counts". The machine's own division rounds toward zero: where it
-// leaves a negative rest, the quotient is one less and the rest twelve more.
+// "signed month counts, floor division and remainder by 12 with negative counts". For a divisor above 0 the library's Euclidean division
+// is just that: it rounds down, and leaves no negative rest.
 ghost use Rattle.std.specs.Prelude.{◌≡◌};
 ghost use Rattle.signed.specs.Floor.{floor_div, floor_mod};
 
@@ -7,23 +7,17 @@ ghost use Rattle.signed.specs.Floor.{floor_div, floor_mod};
 pub const MONTHS: i16 = 12;
 
 // The quotient by twelve, rounded down.
+#[tactic(auto, unfolding(crate::specs::Floor::floor_div))]
 pub fn floor_div(m: i16) -> i16
     ensures { result ≡ floor_div m }
 {
-    let q = m / MONTHS;
-    if m % MONTHS < 0 {
-        return q - 1;
-    }
-    q
+    m.div_euclid(MONTHS)
 }
 
 // What that leaves, 0 to 11.
+#[tactic(auto, unfolding(crate::specs::Floor::floor_mod))]
 pub fn floor_mod(m: i16) -> u8
     ensures { result ≡ floor_mod m }
 {
-    let k = m % MONTHS;
-    if k < 0 {
-        return (k + MONTHS) as u8;
-    }
-    k as u8
+    m.rem_euclid(MONTHS) as u8
 }

@@ -1,5 +1,5 @@
 -- What the special functions that set make of data, test by test: another setting, or that the data are malformed.
-use Prim.Native.Nat.{ℕ, ◌-◌, ◌<◌}
+use Prim.Native.Nat.{ℕ, ◌-◌, ◌<◌, ◌≤◌}
 use mathlib.Core.Path.{◌≡◌, refl, sym, ap, ◌∙◌}
 use mathlib.Core.List.{List, [], ◌∷◌}
 use mathlib.Core.Bool.{Bool, true, false, not, ◌&&◌, ◌||◌}
@@ -12,13 +12,12 @@ use mir.Syntax.{w8}
 use mir.Facts.{to_z-of_z}
 use borrow.Author.Rules.{rules}
 use borrow.Author.Tests.{eq-eqb, ne_eqb, not-true, not-false}
+use Rattle.std.specs.Prelude.{Option, Some, None, Result, Ok, Err}
 use Rattle.octets.specs.Choice.{◌is◌, ◌≤?◌, ◌!◌, all, same}
 use Rattle.octets.specs.Bytes.{ZERO, F}
 use Rattle.octets.specs.Decimal.{is_decimal, decimal2}
 use Rattle.octets.specs.Carried.{capitals}
 use Rattle.octets.specs.InnerDigits.{two}
-use Rattle.octets.specs.declared.hex.Two.{Two}
-use Rattle.octets.specs.declared.hex.Two.TheVariants.{Value, Bad}
 use Rattle.octets.proofs.Tests.{and_none, and-some}
 use Rattle.octets.proofs.Told.{two_none, two-some}
 use Rattle.signed.proofs.Held.{held}
@@ -31,7 +30,11 @@ use Rattle.effects.specs.Effects.{refuse, change}
 use Rattle.configuration.specs.Configuration.{configure}
 use Rattle.special.specs.Special.{TIME, SPEAKER, CONFIGURATION, FORMAT, ADDRESS, DATE, OFFSET, CLEAR}
 use Rattle.special.specs.Special.{to, malformed, unknown, set_time, set_speaker, set_format, set_date, set_address, set_offset, clear_errors, set_by, write_special}
+use Rattle.special.specs.InnerSetting.{put, put_read}
+use Rattle.special.specs.declared.special.Setting.{Setting}
+use Rattle.effects.specs.InnerLeaving.{number}
 use Rattle.effects.specs.declared.Changed.{Changed}
+use Rattle.effects.specs.declared.Refusal.{Refusal}
 
 -- data that are digits alone: b is the code's answer
 pub digits-alone : (d : List ℕ) (b : Bool) → b ≡ all is_decimal d → not b ≡ false → all is_decimal d ≡ true
@@ -54,9 +57,9 @@ module _ (s : Settings) (d : List ℕ) where
       unfolding set_time
       time-late n = rw (eq-eqb (length d) 4 l, ← e, not-false b h, ← p, ← q, ← f, not-true t n)
 
-      pub time-right : not t ≡ false → (r : Settings) → r ≡ with_time s x y → to r ≡ set_time s d
+      pub time-right : not t ≡ false → to (with_time s x y) ≡ set_time s d
       unfolding set_time
-      time-right n r g = rw (eq-eqb (length d) 4 l, ← e, not-false b h, ← p, ← q, ← f, not-false t n, g)
+      time-right n = rw (eq-eqb (length d) 4 l, ← e, not-false b h, ← p, ← q, ← f, not-false t n)
 
 pub ruleset timing = (digits-alone, time-length, time-letters, time-late, time-right, rules)
 
@@ -78,9 +81,9 @@ module _ (s : Settings) (d : List ℕ) where
       unfolding set_date
       date-none n = rw (eq-eqb (length d) 6 l, ← e, not-false b h, ← p, ← q, ← w, ← f, not-true t n)
 
-      pub date-right : not t ≡ false → (r : Settings) → r ≡ with_date s x y z → to r ≡ set_date s d
+      pub date-right : not t ≡ false → to (with_date s x y z) ≡ set_date s d
       unfolding set_date
-      date-right n r g = rw (eq-eqb (length d) 6 l, ← e, not-false b h, ← p, ← q, ← w, ← f, not-false t n, g)
+      date-right n = rw (eq-eqb (length d) 6 l, ← e, not-false b h, ← p, ← q, ← w, ← f, not-false t n)
 
 pub ruleset dating = (digits-alone, date-length, date-letters, date-none, date-right, rules)
 
@@ -98,17 +101,17 @@ module _ (s : Settings) (d : List ℕ) (b : Bool) (e : b ≡ same d (ZERO ∷ ZE
   on_test : (length d is 2 && (d ! 0 is ZERO && d ! 1 is ZERO)) ≡ b
   on_test = sym (e ∙ same-two d ZERO ZERO)
 
-  pub speaker-on : b ≡ true → (r : Settings) → r ≡ with_speaker s ON → to r ≡ set_speaker s d
+  pub speaker-on : b ≡ true → to (with_speaker s ON) ≡ set_speaker s d
   unfolding set_speaker
-  speaker-on h r g = rw (on_test, h, g)
+  speaker-on h = rw (on_test, h)
 
   module _ (h : b ≡ false) (t : Bool) (f : t ≡ same d (F ∷ F ∷ [])) where
     off-test : (length d is 2 && (d ! 0 is F && d ! 1 is F)) ≡ t
     off-test = sym (f ∙ same-two d F F)
 
-    pub speaker-off : t ≡ true → (r : Settings) → r ≡ with_speaker s OFF → to r ≡ set_speaker s d
+    pub speaker-off : t ≡ true → to (with_speaker s OFF) ≡ set_speaker s d
     unfolding set_speaker
-    speaker-off k r g = rw (on_test, h, off-test, k, g)
+    speaker-off k = rw (on_test, h, off-test, k)
 
     pub speaker-neither : t ≡ false → malformed s ≡ set_speaker s d
     unfolding set_speaker
@@ -119,20 +122,27 @@ pub ruleset speaking = (speaker-on, speaker-off, speaker-neither, rules)
 -- ---- the time format
 
 module _ (s : Settings) (d : List ℕ) where
-  pub format-length : (length d ≡ 1 → ⊥) → malformed s ≡ set_format s d
+  pub format-none : length d < 1 → malformed s ≡ set_format s d
   unfolding set_format
-  format-length n = rw (ne_eqb (length d) 1 n)
+  format-none n = rw (ne_eqb (length d) 1 (λ e. omega arith))
 
-  module _ (l : length d ≡ 1) (x : ℕ) (p : x ≡ d ! 0) (b : Bool) (e : b ≡ (x is FORMAT-S || x is FORMAT-M)) where
-    pub format-other : not b ≡ true → malformed s ≡ set_format s d
+  pub format-excess : 2 ≤ length d → malformed s ≡ set_format s d
+  unfolding set_format
+  format-excess n = rw (ne_eqb (length d) 1 (λ e. omega arith))
+
+  module _ (k : 1 ≤ length d) (l : length d < 2) (b : Bool) (e : b ≡ (d ! 0 is FORMAT-S || d ! 0 is FORMAT-M)) where
+    one : length d ≡ 1
+    one = omega arith
+
+    pub format-other : b ≡ false → malformed s ≡ set_format s d
     unfolding set_format
-    format-other h = rw (eq-eqb (length d) 1 l, ← p, ← e, not-true b h)
+    format-other h = rw (eq-eqb (length d) 1 one, ← e, h)
 
-    pub format-right : not b ≡ false → (r : Settings) → r ≡ with_format s x → to r ≡ set_format s d
+    pub format-right : b ≡ true → to (with_format s (d ! 0)) ≡ set_format s d
     unfolding set_format
-    format-right h r g = rw (eq-eqb (length d) 1 l, ← p, ← e, not-false b h, g)
+    format-right h = rw (eq-eqb (length d) 1 one, ← e, h)
 
-pub ruleset formatting = (format-length, format-other, format-right, rules)
+pub ruleset formatting = (format-none, format-excess, format-other, format-right, rules)
 
 -- ---- the address
 
@@ -141,23 +151,23 @@ module _ (s : Settings) (d : List ℕ) where
   unfolding set_address
   address-length n = rw (ne_eqb (length d) 2 n)
 
-  module _ (l : length d ≡ 2) (x : Two) (e : x ≡ two (capitals d)) where
-    pub address-letters : x ≡ Bad → malformed s ≡ set_address s d
+  module _ (l : length d ≡ 2) (x : Option ℕ) (e : x ≡ two (capitals d)) where
+    pub address-letters : x ≡ None → malformed s ≡ set_address s d
     unfolding set_address
     address-letters h = rw (eq-eqb (length d) 2 l, two_none (capitals d) (sym e ∙ h))
 
-    pub address-right : (v : ℕ) → x ≡ Value v → (r : Settings) → r ≡ with_address s v → to r ≡ set_address s d
+    pub address-right : (v : ℕ) → x ≡ Some v → to (with_address s v) ≡ set_address s d
     unfolding set_address
-    address-right v h r g = let w = two-some (capitals d) v (sym e ∙ h) in rw (eq-eqb (length d) 2 l, w.0, w.1, g)
+    address-right v h = let w = two-some (capitals d) v (sym e ∙ h) in rw (eq-eqb (length d) 2 l, w.0, w.1)
 
 pub ruleset addressing = (address-length, address-letters, address-right, rules)
 
 -- ---- the temperature offset
 
-module _ (s : Settings) (d : List ℕ) (b : Bool) (e : b ≡ is_signed_digit d) where
-  pub offset-other : not b ≡ true → malformed s ≡ set_offset s d
+module _ (d : List ℕ) (b : Bool) (e : b ≡ is_signed_digit d) where
+  pub offset-other : not b ≡ true → (s : Settings) → malformed s ≡ set_offset s d
   unfolding set_offset
-  offset-other h = rw (← e, not-true b h)
+  offset-other h s = rw (← e, not-true b h)
 
   module _ (h : not b ≡ false) where
     signed : is_signed_digit d ≡ true
@@ -172,39 +182,38 @@ module _ (s : Settings) (d : List ℕ) (b : Bool) (e : b ≡ is_signed_digit d) 
     pub offset-digit : is_decimal (d ! 1) ≡ true
     offset-digit = second-digit d signed
 
-    pub offset-right : (z : ℤ) → mag z < 128 → z ≡ signed_digit (d ! 0) (d ! 1) → (r : Settings) → r ≡ with_offset s (held w8 z) →
-        to r ≡ set_offset s d
+    pub offset-right : (z : ℤ) → mag z < 128 → z ≡ signed_digit (d ! 0) (d ! 1) → (s : Settings) → to (with_offset s (held w8 z)) ≡ set_offset s d
     unfolding set_offset
-    offset-right z k p r g = rw (signed, ← p, g) (ap (λ (x : ℤ). to (with_offset s x)) (to_z-of_z {w = w8} record { sfits = k }))
+    offset-right z k p s = rw (signed, ← p) (ap (λ (x : ℤ). to (with_offset s x)) (to_z-of_z {w = w8} record { sfits = k }))
 
 pub ruleset offsetting = (offset-other, offset-first, offset-second, offset-digit, offset-right, rules)
 
 -- ---- the register
 
 module _ (s : Settings) where
-  pub clear-excess : (d : List ℕ) → (length d ≡ 0 → ⊥) → malformed s ≡ clear_errors s d
+  pub clear-excess : (d : List ℕ) → 1 ≤ length d → malformed s ≡ clear_errors s d
   unfolding clear_errors
-  clear-excess [] n = absurd (n refl)
+  clear-excess [] n = absurd (omega arith)
   clear-excess (x ∷ d) n = refl
 
-  pub clear-right : (d : List ℕ) → length d ≡ 0 → (r : Settings) → r ≡ cleared s → to r ≡ clear_errors s d
+  pub clear-right : (d : List ℕ) → length d < 1 → to (cleared s) ≡ clear_errors s d
   unfolding clear_errors
-  clear-right [] l r g = ap to g
-  clear-right (x ∷ d) l r g = absurd (omega arith)
+  clear-right [] l = refl
+  clear-right (x ∷ d) l = absurd (omega arith)
 
 pub ruleset clearing = (clear-excess, clear-right, rules)
 
 -- ---- one of them, by its label
 
-module _ (s : Settings) (l : ℕ) (d : List ℕ) where
+module _ (l : ℕ) (d : List ℕ) where
   -- k is one of the labels
-  pub set-labelled : (k : ℕ) (r : Changed) → l ≡ k → r ≡ set_by s k d → r ≡ set_by s l d
-  set-labelled k r e h = rw e h
+  pub set-labelled : (k : ℕ) (r : Result Setting Refusal) → l ≡ k → ((s : Settings) → put_read s r ≡ set_by s k d) → (s : Settings) → put_read s r ≡ set_by s l d
+  set-labelled k r e h s = rw e (h s)
 
   pub set-none : (l ≡ TIME → ⊥) → (l ≡ SPEAKER → ⊥) → (l ≡ FORMAT → ⊥) → (l ≡ ADDRESS → ⊥) → (l ≡ DATE → ⊥) →
-      (l ≡ OFFSET → ⊥) → (l ≡ CLEAR → ⊥) → unknown s ≡ set_by s l d
+      (l ≡ OFFSET → ⊥) → (l ≡ CLEAR → ⊥) → (s : Settings) → unknown s ≡ set_by s l d
   unfolding set_by
-  set-none a b c f e g h =
+  set-none a b c f e g h s =
       rw (
         ne_eqb l TIME a,
         ne_eqb l SPEAKER b,
@@ -215,7 +224,15 @@ module _ (s : Settings) (l : ℕ) (d : List ℕ) where
         ne_eqb l CLEAR h,
       )
 
-pub ruleset labelled = (set-labelled, set-none, rules)
+  -- put where it belongs
+  pub set-put : (s : Settings) (x : Setting) (r : Settings) → ((s : Settings) → put_read s (Ok x) ≡ set_by s l d) → r ≡ put s x → to r ≡ set_by s l d
+  set-put s x r h e = rw e (h s)
+
+  pub set-refused : (s : Settings) (x : Refusal) (n : ℕ) → ((s : Settings) → put_read s (Err x) ≡ set_by s l d) → n ≡ number x →
+      record { number = n; settings = s } ≡ set_by s l d
+  set-refused s x n h e = rw e (h s)
+
+pub ruleset labelled = (set-labelled, set-none, set-put, set-refused, rules)
 
 -- ---- E
 

@@ -7,11 +7,11 @@ use mathlib.Core.List.{List, [], ◌∷◌, ◌++◌, append_assoc, append-nil}
 use mathlib.Core.Bool.{Bool, true, false, not}
 use mathlib.Core.Logic.{◌⊎◌, ⊎_elim, inl, inr}
 use native.Mathlib.Omega.{arith}
-use lib.ListN.{length, take, drop, length-append, length-drop}
+use lib.ListN.{length, take, drop, set, length-append, length-drop}
 use lib.Seq.{length-take-le}
 use borrow.Author.Rules.{rules}
 use borrow.Author.Tests.{eq-eqb, ne_eqb, leb-true, not-true, not-false}
-use Rattle.std.specs.Prelude.{if◌then◌else◌}
+use Rattle.std.specs.Prelude.{Ok, Err, if◌then◌else◌}
 use Rattle.octets.specs.Choice.{◌is◌, ◌isn't◌, ◌!◌}
 use Rattle.octets.specs.Bytes.{COMMA, ZERO, E, F}
 use Rattle.octets.specs.Hex.{in_hex4}
@@ -20,6 +20,7 @@ use Rattle.octets.specs.Buffer.{splice}
 use Rattle.octets.proofs.Tests.{by-test}
 use Rattle.octets.proofs.Buffers.{length-splice}
 use Rattle.octets.proofs.Ranges.{on}
+use Rattle.buffers.proofs.Stores.{store-one}
 use Rattle.buffers.proofs.Splices.{splice-none, splice-next, splice-in, overlay-covers}
 use Rattle.board.specs.Settings.{ON, in_range, cleared}
 use Rattle.board.specs.Files.{taken, files_of, heads, unused}
@@ -28,13 +29,14 @@ use Rattle.board.specs.declared.Settings.{Settings}
 use Rattle.board.proofs.Ranges.{range, month-most, day-most, year-most}
 use Rattle.board.proofs.Walking.{Standing, room, stand-start, stand-next, standing}
 use Rattle.board.proofs.Inside.{sound-ranged, sound-held, sound-least, sound-most, sound-unused, heads-step, heads-none}
-use Rattle.board.specs.Board.{Board, with_settings, files_on}
+use Rattle.board.specs.Board.{Board, board, with_settings, files_on}
 use Rattle.effects.specs.Reply.{reply_of, reply_room}
 use Rattle.effects.specs.Effects.{replied, refuse}
 use Rattle.special.specs.Special.{TIME, SPEAKER, POOL, CONFIGURATION, FORMAT, DATE, ERRORS}
 use Rattle.special.specs.Special.{tell_time, tell_date, tell_speaker, tell_pool, is_told, tell, after_told, read_special}
-use Rattle.effects.specs.InnerLeaving.{done_as, Replied, Told, left_as, leaving, Ready}
-use Rattle.effects.specs.declared.Done.{Done}
+use Rattle.effects.specs.InnerLeaving.{number, done_by, Replied, Told, left_as, leaving, Ready}
+use Rattle.effects.specs.declared.Refusal.{Refusal}
+use Rattle.effects.specs.declared.Refusal.TheVariants.{Malformed, Unknown}
 use Rattle.effects.proofs.ReplyLengths.{reply-length, room-least}
 use Rattle.special.proofs.TellLengths.{told-fits}
 use Rattle.effects.proofs.Outcomes.{left-quiet, left-replied}
@@ -140,34 +142,24 @@ pub ruleset clock = (hour-small, minute-small, month-small, day-small, year-smal
 
 -- ---- the speaker
 
-pub character-on : (v : ℕ) → v ≡ ON → ZERO ≡ (if v is ON then ZERO else F)
-character-on v e = rw (eq-eqb v ON e)
-
-pub character-off : (v : ℕ) → (v ≡ ON → ⊥) → F ≡ (if v is ON then ZERO else F)
-character-off v n = rw (ne_eqb v ON n)
-
-pub speaker-put : (out : List ℕ) (s : Settings) (x : ℕ) (a : List ℕ) → x ≡ (if s.speaker is ON then ZERO else F) → a ≡ splice out 27 (x ∷ x ∷ []) →
-    Told out (tell_speaker s) a 2
-unfolding tell_speaker
-speaker-put out s x a e p =
-    by-test (s.speaker is ON)
-    (λ t. let z : x ≡ ZERO = rw t at e in rw t (record { stored = rw z at p; long = refl }))
-    (λ t. let z : x ≡ F = rw t at e in rw t (record { stored = rw z at p; long = refl }))
-
-pub ruleset speaker = (character-on, character-off, speaker-put, rules)
+-- its text is two bytes, which leaves room
+pub text-room : {k : ℕ} (v : ℕ) (x : List ℕ) → x ≡ (if v is ON then ZERO ∷ ZERO ∷ [] else F ∷ F ∷ []) → 128 ≤ k → 27 + length x ≤ k
+text-room v x e h =
+    by-test (v is ON) (λ t. rw (rw t at e) (omega arith)) (λ t. rw (rw t at e) (omega arith))
 
 -- ---- the pool
 
 pub pool-put : (total unused : ℕ) (out a b c : List ℕ) → 128 ≤ length out →
-    a ≡ splice out 27 (in_hex4 total) → b ≡ splice a 31 (COMMA ∷ []) → c ≡ splice b 32 (in_hex4 unused) →
+    a ≡ splice out 27 (in_hex4 total) → b ≡ set a 31 COMMA → c ≡ splice b 32 (in_hex4 unused) →
     Told out (in_hex4 total ++ (COMMA ∷ in_hex4 unused)) c 9
 unfolding in_hex4
 pool-put total unused out a b c h p q r =
     let x = in_hex4 total in
     let y : List ℕ = COMMA ∷ [] in
     let z = in_hex4 unused in
+    let n : 31 < length a = rw (p, length-splice out 27 x (omega arith)) (omega arith) in
     record {
-      stored = r ∙ rw (q, p, splice-next out 27 x y 31 (omega arith) refl) (splice-next out 27 (x ++ y) z 32 (omega arith) refl);
+      stored = r ∙ rw (q, store-one a 31 COMMA n, p, splice-next out 27 x y 31 (omega arith) refl) (splice-next out 27 (x ++ y) z 32 (omega arith) refl);
       long = refl;
     }
 
@@ -192,17 +184,17 @@ pub record Gathering (m : List ℕ) (n : ℕ) (out out' : List ℕ) (at place le
   pub long : length out' ≡ length out
   pub rest : told ++ heads (files_of left (drop at m)) ≡ heads (files_of n m)
 
-pub gather-start : (m : List ℕ) (n : ℕ) (out : List ℕ) → holds_files n m ≡ true → reply_room m ≤ length out → Gathering m n out out 0 27 n
-gather-start m n out e h =
+pub gather-start : (m : List ℕ) (n left : ℕ) (out : List ℕ) → left ≡ n → holds_files n m ≡ true → reply_room m ≤ length out → Gathering m n out out 0 27 left
+gather-start m n left out k e h =
     record {
-      stands = stand-start m n e;
+      stands = rw k (stand-start m n e);
       room = h;
       told = [];
       stored = sym (splice-none out 27);
       ends = refl;
       few = omega arith;
       long = refl;
-      rest = refl;
+      rest = rw k refl;
     }
 
 module _ {m : List ℕ} {n : ℕ} {out out' : List ℕ} {at place left : ℕ} (g : Gathering m n out out' at place left) where
@@ -221,23 +213,23 @@ module _ {m : List ℕ} {n : ℕ} {out out' : List ℕ} {at place left : ℕ} (g
         let z : at + 11 - at ≡ 11 = omega arith in
         rw (z, record-long) (omega (arith, inside, g, room-least m))
 
-    pub gather-next : (long : ℕ) (a : List ℕ) → long ≡ 11 + taken (drop at m) → a ≡ splice out' place (take (at + 11 - at) (drop at m)) →
-        Gathering m n out a (at + long) (place + 11) (left - 1)
-    gather-next long a e q =
+    pub gather-next : (long less : ℕ) (a : List ℕ) → less ≡ left - 1 → long ≡ 11 + taken (drop at m) → a ≡ splice out' place (take (at + 11 - at) (drop at m)) →
+        Gathering m n out a (at + long) (place + 11) less
+    gather-next long less a k e q =
         let z : at + 11 - at ≡ 11 = omega arith in
         let r : List ℕ = take 11 (drop at m) in
         let t = g.told in
         let i : 27 + length t ≤ length out = omega (arith, inside, g, room-least m) in
         let s : a ≡ splice out 27 (t ++ r) = q ∙ rw (z, g.stored) (splice-next out 27 t r place i g.ends) in
         record {
-          stands = stand-next g.stands p long e;
+          stands = rw k (stand-next g.stands p long e);
           room = g.room;
           told = t ++ r;
           stored = s;
           ends = rw (length-append, record-long) (omega (arith, g.ends));
           few = rw (length-append, record-long) (omega (arith, g.few));
           long = rw (s, length-splice out 27 (t ++ r) (rw (length-append, record-long) (omega (arith, inside, g, room-least m))));
-          rest = rw (e, append_assoc t r _) (ap (λ l. t ++ l) (sym (heads-step m at left p)) ∙ g.rest);
+          rest = rw (k, e, append_assoc t r _) (ap (λ l. t ++ l) (sym (heads-step m at left p)) ∙ g.rest);
         }
 
   pub gather-whole : left ≤ 0 → Told out (heads (files_of n m)) out' (place - 27)
@@ -254,9 +246,9 @@ module _ (b : Board) (l : ℕ) (out a : List ℕ) (k : ℕ) where
   unfolding tell
   tell-time e t = rw e t
 
-  pub tell-speaker : l ≡ SPEAKER → Told out (tell_speaker b.settings) a k → Told out (tell b l) a k
-  unfolding tell
-  tell-speaker e t = rw e t
+  pub tell-speaker : (x : List ℕ) → l ≡ SPEAKER → x ≡ (if b.settings.speaker is ON then ZERO ∷ ZERO ∷ [] else F ∷ F ∷ []) → Told out x a k → Told out (tell b l) a k
+  unfolding tell tell_speaker
+  tell-speaker x e f t = rw e (rw f at t)
 
   pub tell-format : l ≡ FORMAT → Told out (b.settings.format ∷ []) a k → Told out (tell b l) a k
   unfolding tell
@@ -280,7 +272,7 @@ module _ (b : Board) (l : ℕ) (out a : List ℕ) (k : ℕ) where
   tell-pool f g h i n j t =
       rw (ne_eqb l TIME f, ne_eqb l SPEAKER g, ne_eqb l FORMAT i, ne_eqb l DATE j, ne_eqb l CONFIGURATION h, ne_eqb l ERRORS n) t
 
-pub ruleset telling = (ready-ranged, ready_held, ready-room, total-fits, tell-time, tell-speaker, tell-format, tell-date, tell-records, tell-errors, tell-pool, rules)
+pub ruleset telling = (ready-ranged, ready_held, ready-room, total-fits, text-room, tell-time, tell-speaker, tell-format, tell-date, tell-records, tell-errors, tell-pool, rules)
 
 -- ---- the settings once it is told
 
@@ -306,15 +298,18 @@ read_some b [] h = absurd (h refl)
 read_some b (l ∷ []) h = refl
 read_some b (l ∷ x ∷ d) h = rw (ne_eqb (length (l ∷ x ∷ d)) 1 (λ e. omega arith))
 
-module _ (b : Board) (out : List ℕ) where
-  -- refused, the buffer is as it was
-  refused : (n : ℕ) (text : List ℕ) → read_special b text ≡ refuse n b → (r : Done) → r ≡ done_as n b.settings 0 → (m : List ℕ) → m ≡ b.memory →
-      left_as r m out ≡ leaving out (read_special b text)
-  refused n text e r q m k = rw (q, k) (left-quiet out (read_special b text) n b (sym e))
+module _ (s : Settings) (m out : List ℕ) where
+  abbrev b : Board
+  b = board s m
 
-  pub read_none : (text : List ℕ) → length text ≡ 0 → (r : Done) → r ≡ done_as 22 b.settings 0 → (m : List ℕ) → m ≡ b.memory → left_as r m out ≡ leaving out (read_special b text)
+  -- refused, the buffer is as it was
+  refused : (x : Refusal) (text : List ℕ) → read_special b text ≡ refuse (number x) b →
+      left_as (done_by (Err x)) s m out ≡ leaving out (read_special b text)
+  refused x text e = left-quiet out (read_special b text) (number x) b (sym e)
+
+  pub read_none : (text : List ℕ) → length text ≡ 0 → left_as (done_by (Err Malformed)) s m out ≡ leaving out (read_special b text)
   unfolding read_special
-  read_none [] h = refused 22 [] refl
+  read_none [] h = refused Malformed [] refl
   read_none (l ∷ d) h = absurd (omega arith)
 
   module _ (l : ℕ) (g : Ready b out) where
@@ -326,27 +321,27 @@ module _ (b : Board) (out : List ℕ) where
     read-room a n t = rw (t.stored, length-splice out 27 (tell b l) (omega (arith, fits))) (omega (arith, fits, t.long))
 
     replied-told : (a c : List ℕ) (n k : ℕ) → Told out (tell b l) a n → Replied a E l (take n (drop 27 a)) c k →
-        left_as (done_as 0 (after_told b.settings l) k) b.memory c ≡ leaving out (replied (with_settings b (after_told b.settings l)) (reply_of E l (tell b l)))
+        left_as (done_by (Ok k)) (after_told s l) m c ≡ leaving out (replied (with_settings b (after_told s l)) (reply_of E l (tell b l)))
     replied-told a c n k t y =
         let d = tell b l in
         let i : 27 + length d ≤ length out = omega (arith, fits) in
         let z : take n (drop 27 a) ≡ d = rw (t.long, t.stored) (splice-in out 27 d i) in
-        left-replied out (with_settings b (after_told b.settings l)) (reply_of E l d) c k
+        left-replied out (with_settings b (after_told s l)) (reply_of E l d) c k
         (y.stored ∙ rw (z, t.stored) (overlay-covers out 27 d (reply_of E l d) i (rw reply-length (omega arith))))
         (y.long ∙ ap (λ x. length (reply_of E l x)) z)
 
   module _ (text : List ℕ) (h : length text ≡ 0 → ⊥) (t : Bool) (f : t ≡ is_told (text ! 0)) where
-    pub read-unknown : not t ≡ true → (r : Done) → r ≡ done_as 21 b.settings 0 → (m : List ℕ) → m ≡ b.memory → left_as r m out ≡ leaving out (read_special b text)
-    read-unknown n = refused 21 text (read_some b text h ∙ rw (← f, not-true t n))
+    pub read-unknown : not t ≡ true → left_as (done_by (Err Unknown)) s m out ≡ leaving out (read_special b text)
+    read-unknown n = refused Unknown text (read_some b text h ∙ rw (← f, not-true t n))
 
     module _ (n : not t ≡ false) where
-      pub read-long : (length text ≡ 1 → ⊥) → (r : Done) → r ≡ done_as 22 b.settings 0 → (m : List ℕ) → m ≡ b.memory → left_as r m out ≡ leaving out (read_special b text)
-      read-long k = refused 22 text (read_some b text h ∙ rw (← f, not-false t n, ne_eqb (length text) 1 k))
+      pub read-long : (length text ≡ 1 → ⊥) → left_as (done_by (Err Malformed)) s m out ≡ leaving out (read_special b text)
+      read-long k = refused Malformed text (read_some b text h ∙ rw (← f, not-false t n, ne_eqb (length text) 1 k))
 
-      pub read_told : (a c : List ℕ) (i k : ℕ) (x : Settings) → x ≡ after_told b.settings (text ! 0) → length text ≡ 1 → Ready b out →
+      pub read_told : (a c : List ℕ) (i k : ℕ) (x : Settings) → x ≡ after_told s (text ! 0) → length text ≡ 1 → Ready b out →
           Told out (tell b (text ! 0)) a i → Replied a E (text ! 0) (take i (drop 27 a)) c k →
-          (m : List ℕ) → m ≡ b.memory → left_as (done_as 0 x k) m c ≡ leaving out (read_special b text)
-      read_told a c i k x q l g d y m z =
-          rw (read_some b text h, ← f, not-false t n, eq-eqb (length text) 1 l, q, z) (replied-told (text ! 0) g a c i k d y)
+          left_as (done_by (Ok k)) x m c ≡ leaving out (read_special b text)
+      read_told a c i k x q l g d y =
+          rw (read_some b text h, ← f, not-false t n, eq-eqb (length text) 1 l, q) (replied-told (text ! 0) g a c i k d y)
 
 pub ruleset reading = (read_none, read-room, read-unknown, read-long, read_told, rules)

@@ -1,2 +1,3 @@
 -- The special functions.
 pub mod Special
+pub mod InnerSetting

@@ -7,10 +7,12 @@ ghost use Rattle.board.specs.Settings.{ON, in_range};
 ghost use Rattle.board.specs.Files.{files_of, heads};
 ghost use Rattle.board.specs.Soundness.{holds_files, sound};
 ghost use Rattle.board.specs.Board.{board};
+ghost use Rattle.board.specs.declared.Settings.{Settings};
 ghost use Rattle.effects.specs.Reply.{reply_room};
 ghost use Rattle.effects.specs.Effects.{change};
 ghost use Rattle.special.specs.Special.{set_time, set_speaker, set_format, set_date, set_address, set_offset, clear_errors, set_by, write_special, tell_time, tell_date, tell_speaker, is_told, tell, after_told, read_special};
-ghost use Rattle.effects.specs.InnerLeaving.{Told, left_as, leaving, Ready};
+ghost use Rattle.special.specs.InnerSetting.{put, put_read};
+ghost use Rattle.effects.specs.InnerLeaving.{done_by, Told, left_as, leaving, Ready};
 
 use board::Settings;
 use board::files::{RECORD, file_length};
@@ -19,15 +21,15 @@ use buffers::copying::copy_at;
 use buffers::decimal::{all_decimal, decimal_at, put_decimal};
 use buffers::hex::put_four;
 use configuration::configure;
-use effects::numbers::{MALFORMED, UNKNOWN};
 use effects::reply::{DATA, reply};
-use effects::{Changed, Done, quiet};
+use effects::{Changed, Refusal};
 use octets::bytes::{COMMA, E, F, ZERO};
-use octets::hex::{Two, carried_two_at};
-use octets::slices::same;
+use octets::hex::carried_two_at;
+use octets::slices::{put_at, same};
 use temperature::offset::{is_signed_digit, signed_digit};
 
 // the function labels
+// Stays: bytes of the wire, matched where they are read; an enum of them would need this list, and a conversion besides.
 const TIME: u8 = 0x20;
 
 const SPEAKER: u8 = 0x21;
@@ -48,166 +50,133 @@ const DATE: u8 = 0x3B;
 
 const OFFSET: u8 = 0x54;
 
+// What E sets, with its value.
+#[derive(Clone, Copy)]
+enum Setting {
+    Time { hour: u8, minute: u8 },
+    Date { month: u8, day: u8, year: u8 },
+    Speaker(u8),
+    Format(u8),
+    Address(u8),
+    Offset(i8),
+    NoErrors,
+}
+
 // "four digits HhMm, 00:00 to 23:59"
-fn set_time(s: Settings, d: &[u8]) -> Changed
-    ensures { result ≡ set_time s d.now }
+fn time_in(d: &[u8]) -> Result<Setting, Refusal>
+    ensures { (s : Settings) → put_read s result ≡ set_time s d.now }
 {
-    if d.len() != 4 {
-        return Changed {
-            number: MALFORMED,
-            settings: s,
-        };
-    }
-    if !all_decimal(d) {
-        return Changed {
-            number: MALFORMED,
-            settings: s,
-        };
+    if d.len() != 4 || !all_decimal(d) {
+        return Err(Refusal::Malformed);
     }
     let hour = decimal_at(d, 0);
     let minute = decimal_at(d, 2);
     if !in_time(hour, minute) {
-        return Changed {
-            number: MALFORMED,
-            settings: s,
-        };
+        return Err(Refusal::Malformed);
     }
-    Changed {
-        number: 0,
-        settings: s.with_time(hour, minute),
-    }
-}
-
-// ""00" speaker on, "FF" off"
-fn set_speaker(s: Settings, d: &[u8]) -> Changed
-    ensures { result ≡ set_speaker s d.now }
-{
-    let on = [ZERO, ZERO];
-    if same(d, &on) {
-        return Changed {
-            number: 0,
-            settings: s.with_speaker(ON),
-        };
-    }
-    let off = [F, F];
-    if same(d, &off) {
-        return Changed {
-            number: 0,
-            settings: s.with_speaker(OFF),
-        };
-    }
-    Changed {
-        number: MALFORMED,
-        settings: s,
-    }
-}
-
-// ""S" or "M""
-fn set_format(s: Settings, d: &[u8]) -> Changed
-    ensures { result ≡ set_format s d.now }
-{
-    if d.len() != 1 {
-        return Changed {
-            number: MALFORMED,
-            settings: s,
-        };
-    }
-    let format = d[0];
-    if !is_format(format) {
-        return Changed {
-            number: MALFORMED,
-            settings: s,
-        };
-    }
-    Changed {
-        number: 0,
-        settings: s.with_format(format),
-    }
+    Ok(Setting::Time { hour, minute })
 }
 
 // "six digits MmDdYy"; request 1, of a date that does not exist: "A date that breaks this is malformed."
-fn set_date(s: Settings, d: &[u8]) -> Changed
-    ensures { result ≡ set_date s d.now }
+fn date_in(d: &[u8]) -> Result<Setting, Refusal>
+    ensures { (s : Settings) → put_read s result ≡ set_date s d.now }
 {
-    if d.len() != 6 {
-        return Changed {
-            number: MALFORMED,
-            settings: s,
-        };
-    }
-    if !all_decimal(d) {
-        return Changed {
-            number: MALFORMED,
-            settings: s,
-        };
+    if d.len() != 6 || !all_decimal(d) {
+        return Err(Refusal::Malformed);
     }
     let month = decimal_at(d, 0);
     let day = decimal_at(d, 2);
     let year = decimal_at(d, 4);
     if !in_date(month, day, year) {
-        return Changed {
-            number: MALFORMED,
-            settings: s,
-        };
+        return Err(Refusal::Malformed);
     }
-    Changed {
-        number: 0,
-        settings: s.with_date(month, day, year),
+    Ok(Setting::Date { month, day, year })
+}
+
+// ""00" speaker on, "FF" off"
+fn speaker_in(d: &[u8]) -> Result<Setting, Refusal>
+    ensures { (s : Settings) → put_read s result ≡ set_speaker s d.now }
+{
+    if same(d, &[ZERO, ZERO]) {
+        return Ok(Setting::Speaker(ON));
+    }
+    if same(d, &[F, F]) {
+        return Ok(Setting::Speaker(OFF));
+    }
+    Err(Refusal::Malformed)
+}
+
+// ""S" or "M""
+fn format_in(d: &[u8]) -> Result<Setting, Refusal>
+    ensures { (s : Settings) → put_read s result ≡ set_format s d.now }
+{
+    match d {
+        [format] if is_format(*format) => Ok(Setting::Format(*format)),
+        _ => Err(Refusal::Malformed),
     }
 }
 
 // "two hex digits, the serial address from the next frame on"
-fn set_address(s: Settings, d: &[u8]) -> Changed
-    ensures { result ≡ set_address s d.now }
+fn address_in(d: &[u8]) -> Result<Setting, Refusal>
+    ensures { (s : Settings) → put_read s result ≡ set_address s d.now }
 {
     if d.len() != 2 {
-        return Changed {
-            number: MALFORMED,
-            settings: s,
-        };
+        return Err(Refusal::Malformed);
     }
     match carried_two_at(d, 0) {
-        Two::Bad => Changed {
-            number: MALFORMED,
-            settings: s,
-        },
-        Two::Value(address) => Changed {
-            number: 0,
-            settings: s.with_address(address),
-        },
+        Some(address) => Ok(Setting::Address(address)),
+        None => Err(Refusal::Malformed),
     }
 }
 
 // Set Temperature Offset: "a sign and one digit 0 to 9".
-fn set_offset(s: Settings, d: &[u8]) -> Changed
-    ensures { result ≡ set_offset s d.now }
+fn offset_in(d: &[u8]) -> Result<Setting, Refusal>
+    ensures { (s : Settings) → put_read s result ≡ set_offset s d.now }
 {
     if !is_signed_digit(d) {
-        return Changed {
-            number: MALFORMED,
-            settings: s,
-        };
+        return Err(Refusal::Malformed);
     }
-    let offset = signed_digit(d[0], d[1]);
-    Changed {
-        number: 0,
-        settings: s.with_offset(offset),
-    }
+    Ok(Setting::Offset(signed_digit(d[0], d[1])))
 }
 
 // Clear Serial Error Status Register: without data.
-fn clear_errors(s: Settings, d: &[u8]) -> Changed
-    ensures { result ≡ clear_errors s d.now }
+fn clearing_in(d: &[u8]) -> Result<Setting, Refusal>
+    ensures { (s : Settings) → put_read s result ≡ clear_errors s d.now }
 {
-    if d.len() != 0 {
-        return Changed {
-            number: MALFORMED,
-            settings: s,
-        };
+    match d {
+        [] => Ok(Setting::NoErrors),
+        _ => Err(Refusal::Malformed),
     }
-    Changed {
-        number: 0,
-        settings: s.cleared(),
+}
+
+// What E sets under a label, but for "$".
+fn setting_in(label: u8, d: &[u8]) -> Result<Setting, Refusal>
+    ensures { (s : Settings) → put_read s result ≡ set_by s label d.now }
+{
+    match label {
+        TIME => time_in(d),
+        SPEAKER => speaker_in(d),
+        FORMAT => format_in(d),
+        DATE => date_in(d),
+        ADDRESS => address_in(d),
+        OFFSET => offset_in(d),
+        CLEAR => clearing_in(d),
+        _ => Err(Refusal::Unknown),
+    }
+}
+
+// The settings with it.
+fn put(s: Settings, setting: Setting) -> Settings
+    ensures { result ≡ put s setting }
+{
+    match setting {
+        Setting::Time { hour, minute } => s.with_time(hour, minute),
+        Setting::Date { month, day, year } => s.with_date(month, day, year),
+        Setting::Speaker(speaker) => s.with_speaker(speaker),
+        Setting::Format(format) => s.with_format(format),
+        Setting::Address(address) => s.with_address(address),
+        Setting::Offset(offset) => s.with_offset(offset),
+        Setting::NoErrors => s.cleared(),
     }
 }
 
@@ -215,16 +184,13 @@ fn clear_errors(s: Settings, d: &[u8]) -> Changed
 fn set_by(s: Settings, label: u8, d: &[u8]) -> Changed
     ensures { result ≡ set_by s label d.now }
 {
-    match label {
-        TIME => set_time(s, d),
-        SPEAKER => set_speaker(s, d),
-        FORMAT => set_format(s, d),
-        DATE => set_date(s, d),
-        ADDRESS => set_address(s, d),
-        OFFSET => set_offset(s, d),
-        CLEAR => clear_errors(s, d),
-        _ => Changed {
-            number: UNKNOWN,
+    match setting_in(label, d) {
+        Ok(setting) => Changed {
+            number: 0,
+            settings: put(s, setting),
+        },
+        Err(refusal) => Changed {
+            number: refusal.number(),
             settings: s,
         },
     }
@@ -237,7 +203,7 @@ pub fn write_special(s: Settings, m: &mut [u8], text: &[u8]) -> Changed
 {
     if text.len() == 0 {
         return Changed {
-            number: MALFORMED,
+            number: Refusal::Malformed as u8,
             settings: s,
         };
     }
@@ -249,9 +215,11 @@ pub fn write_special(s: Settings, m: &mut [u8], text: &[u8]) -> Changed
 }
 
 // The time, as it is set.
-fn tell_time(s: Settings, out: &mut [u8]) -> usize
-    requires { (in_range s ≡ true) × (128 ≤ length out.old) }
-    ensures { Told out.old (tell_time s) out.new result }
+// Stays: this and the date are two and three lines; one function over a slice of numbers would be a loop, and no shorter. So three ask
+// for room in the buffer: as an array it would first have to be cut out of C's slice.
+fn tell_time(s: &Settings, out: &mut [u8]) -> usize
+    requires { (in_range s.now ≡ true) × (128 ≤ length out.old) }
+    ensures { Told out.old (tell_time s.now) out.new result }
 {
     put_decimal(out, DATA, s.hour);
     put_decimal(out, DATA + 2, s.minute);
@@ -259,9 +227,9 @@ fn tell_time(s: Settings, out: &mut [u8]) -> usize
 }
 
 // The date, as it is set.
-fn tell_date(s: Settings, out: &mut [u8]) -> usize
-    requires { (in_range s ≡ true) × (128 ≤ length out.old) }
-    ensures { Told out.old (tell_date s) out.new result }
+fn tell_date(s: &Settings, out: &mut [u8]) -> usize
+    requires { (in_range s.now ≡ true) × (128 ≤ length out.old) }
+    ensures { Told out.old (tell_date s.now) out.new result }
 {
     put_decimal(out, DATA, s.month);
     put_decimal(out, DATA + 2, s.day);
@@ -269,32 +237,20 @@ fn tell_date(s: Settings, out: &mut [u8]) -> usize
     6
 }
 
-// The character of "00" or of "FF".
-fn speaker_character(speaker: u8) -> u8
-    ensures { result ≡ (if speaker is ON then ZERO else F) }
-{
-    if speaker == ON { ZERO } else { F }
-}
-
 // ""00" speaker on, "FF" off"
-fn tell_speaker(s: Settings, out: &mut [u8]) -> usize
-    requires { 128 ≤ length out.old }
-    ensures { Told out.old (tell_speaker s) out.new result }
+fn speaker_text(speaker: u8) -> [u8; 2]
+    ensures { result ≡ (if speaker is ON then ZERO ∷ ZERO ∷ [] else F ∷ F ∷ []) }
 {
-    let character = speaker_character(s.speaker);
-    let both = [character, character];
-    copy_at(out, DATA, &both);
-    2
+    if speaker == ON { [ZERO, ZERO] } else { [F, F] }
 }
 
-// One byte: the time format, or the register.
-fn tell_byte(byte: u8, out: &mut [u8]) -> usize
-    requires { 128 ≤ length out.old }
-    ensures { Told out.old (byte ∷ []) out.new result }
+// Bytes as they are.
+fn tell_bytes(bytes: &[u8], out: &mut [u8]) -> usize
+    requires { 27 + length bytes.now ≤ length out.old }
+    ensures { Told out.old bytes.now out.new result }
 {
-    let one = [byte];
-    copy_at(out, DATA, &one);
-    1
+    copy_at(out, DATA, bytes);
+    bytes.len()
 }
 
 // The records of n files, one after another.
@@ -304,13 +260,11 @@ fn tell_records(m: &[u8], n: usize, out: &mut [u8]) -> usize
 {
     let mut at: usize = 0;
     let mut place = DATA;
-    let mut left = n;
-    while 0 < left {
+    for _ in 0..n {
         let end = at + RECORD;
         copy_at(out, place, &m[at..end]);
         at += file_length(m, at);
         place += RECORD;
-        left -= 1;
     }
     place - DATA
 }
@@ -321,13 +275,13 @@ fn tell_pool(total: u16, unused: u16, out: &mut [u8]) -> usize
     ensures { Told out.old (in_hex4 total ++ (COMMA ∷ in_hex4 unused)) out.new result }
 {
     put_four(out, DATA, total);
-    let comma = [COMMA];
-    copy_at(out, DATA + 4, &comma);
+    put_at(out, DATA + 4, COMMA);
     put_four(out, DATA + 5, unused);
     9
 }
 
 // "F: labels 20H, "!", "'", ";", "$" and "#""; request 10: and "*".
+// Stays: 21 comes before 22, so the label is judged before the data behind it, and told after them.
 fn is_told(label: u8) -> bool
     ensures { result ≡ is_told label }
 {
@@ -338,52 +292,53 @@ fn is_told(label: u8) -> bool
 }
 
 // "Replies use the layouts above".
-fn tell(s: Settings, m: &[u8], label: u8, out: &mut [u8]) -> usize
-    requires { Ready (board s m.now) out.old }
-    ensures { Told out.old (tell (board s m.now) label) out.new result }
+fn tell(s: &Settings, m: &[u8], label: u8, out: &mut [u8]) -> usize
+    requires { Ready (board s.now m.now) out.old }
+    ensures { Told out.old (tell (board s.now m.now) label) out.new result }
 {
     match label {
         TIME => tell_time(s, out),
-        SPEAKER => tell_speaker(s, out),
-        FORMAT => tell_byte(s.format, out),
+        SPEAKER => tell_bytes(&speaker_text(s.speaker), out),
+        FORMAT => tell_bytes(&[s.format], out),
         DATE => tell_date(s, out),
         CONFIGURATION => tell_records(m, s.files as usize, out),
-        ERRORS => tell_byte(s.errors, out),
+        ERRORS => tell_bytes(&[s.errors], out),
         _ => tell_pool(m.len() as u16, s.unused, out),
     }
 }
 
 // "*" clears the register once it is told; every other label leaves the settings.
-fn after_told(s: Settings, label: u8) -> Settings
-    ensures { result ≡ after_told s label }
+fn after_told(s: &mut Settings, label: u8)
+    ensures { s.new ≡ after_told s.old label }
 {
     if label == ERRORS {
-        return s.cleared();
+        *s = s.cleared();
     }
-    s
 }
 
 // F: "without data".
 #[tactic(auto, using(crate::proofs::Telling::reading))]
-pub fn read_special(s: Settings, m: &[u8], text: &[u8], out: &mut [u8]) -> Done
-    requires { Ready (board s m.now) out.old }
-    ensures { left_as result m.now out.new ≡ leaving out.old (read_special (board s m.now) text.now) }
+pub fn read_special(
+    s: &mut Settings,
+    m: &[u8],
+    text: &[u8],
+    out: &mut [u8],
+) -> Result<usize, Refusal>
+    requires { Ready (board s.old m.now) out.old }
+    ensures { left_as (done_by result) s.new m.now out.new ≡ leaving out.old (read_special (board s.old m.now) text.now) }
 {
     if text.len() == 0 {
-        return quiet(s, MALFORMED);
+        return Err(Refusal::Malformed);
     }
     let label = text[0];
     if !is_told(label) {
-        return quiet(s, UNKNOWN);
+        return Err(Refusal::Unknown);
     }
     if text.len() != 1 {
-        return quiet(s, MALFORMED);
+        return Err(Refusal::Malformed);
     }
     let n = tell(s, m, label, out);
     let length = reply(out, E, label, n);
-    Done {
-        number: 0,
-        settings: after_told(s, label),
-        length,
-    }
+    after_told(s, label);
+    Ok(length)
 }

@@ -1,3 +1,4 @@
 -- The temperature offset, and readings corrected by it.
 pub mod Offset
 pub mod Correcting
+pub mod InnerSum

@@ -7,6 +7,7 @@ pub mod numbers;
 pub mod offset;
 
 // What is answered of a reading: its sum with the offset.
+// Stays: C's interface has the number beside the sum; inside, a sum is a Result.
 #[repr(C)]
 #[derive(Clone, Copy)]
 pub struct Corrected {

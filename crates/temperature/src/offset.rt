@@ -11,9 +11,6 @@ const PLUS: u8 = 0x2B;
 
 const MINUS: u8 = 0x2D;
 
-// the last digit
-const NINE: u8 = 0x39;
-
 // "-9 to 9"
 const MOST_OFFSET: i8 = 9;
 
@@ -21,41 +18,43 @@ const MOST_OFFSET: i8 = 9;
 fn is_sign(sign: u8) -> bool
     ensures { result ≡ (sign is PLUS || sign is MINUS) }
 {
-    sign == PLUS || sign == MINUS
+    matches!(sign, PLUS | MINUS)
 }
 
 // "one digit 0 to 9"
+#[tactic(auto, unfolding(octets::specs::Decimal::is_decimal))]
 fn is_digit(digit: u8) -> bool
     ensures { result ≡ is_decimal digit }
 {
-    ZERO <= digit && digit <= NINE
+    digit.is_ascii_digit()
 }
 
 // "a sign and one digit 0 to 9", and nothing else
+// Stays: `offset_in` of `special` alone asks for test and number; an Option made here would be turned into its Result there, no shorter.
+#[tactic(auto, unfolding(crate::specs::Offset::is_signed_digit))]
 pub fn is_signed_digit(d: &[u8]) -> bool
     ensures { result ≡ is_signed_digit d.now }
 {
-    if d.len() != 2 {
-        return false;
+    match d {
+        [sign, digit] => is_sign(*sign) && is_digit(*digit),
+        _ => false,
     }
-    is_sign(d[0]) && is_digit(d[1])
 }
 
 // The number of a sign and a digit: "-0" and "+0" are the same.
+#[tactic(auto, unfolding(crate::specs::Offset::signed_digit, octets::specs::Decimal::is_decimal))]
 pub fn signed_digit(sign: u8, digit: u8) -> i8
     requires { is_decimal digit ≡ true }
     ensures { result ≡ signed_digit sign digit }
 {
     let n = (digit - ZERO) as i8;
-    if sign == MINUS {
-        return 0 - n;
-    }
-    n
+    if sign == MINUS { -n } else { n }
 }
 
 // "so -9 to 9"
+#[tactic(auto, unfolding(crate::specs::Offset::is_offset))]
 pub fn is_offset(offset: i8) -> bool
     ensures { result ≡ is_offset offset }
 {
-    -MOST_OFFSET <= offset && offset <= MOST_OFFSET
+    (-MOST_OFFSET..=MOST_OFFSET).contains(&offset)
 }

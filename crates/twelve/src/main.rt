@@ -2,292 +2,151 @@
 // beside the same twelve run one by one on another: what both boards hold is printed and compared.
 #![tactic(auto)]
 
-ghost use Rattle.std.specs.Prelude.{◌+◌, ◌≤◌, length};
+ghost use Rattle.std.specs.Prelude.{◌≡◌, ◌≤◌, length};
 
 use board::Settings;
-use octets::slices::same;
-use sign::Answer;
+use std::alloc::Global;
 use std::io;
 
 // each notice's file takes an 11-byte record and 32 bytes of content
-const PITCH: usize = 43;
-
 const RECORD: usize = 11;
 
-const SIZE: usize = 32;
+const PITCH: usize = RECORD + 32;
 
 const NOTICES: u8 = 12;
 
-// The counts of the runs so far, and the settings that the last one left.
-#[derive(Clone, Copy)]
-struct Sum {
+// A board, and the counts of what was run on it.
+#[derive(Drop)]
+struct Trial {
+    settings: Settings,
+    memory: [u8; 1024],
+    reply: [u8; 1088],
+    // Stays: a sum of the numbers that runs answered.
     number: u64,
     done: u64,
     refused: u64,
-    settings: Settings,
 }
 
-fn text(rt: &impl Print, s: &[u8]) -> io::Result<()> {
-    rt.write_all(s)
-}
+impl Trial {
+    // A fresh board with its twelve files.
+    fn prepared() -> Trial {
+        let mut memory = [0u8; 1024];
+        let mut reply = [0u8; 1088];
+        let made = sign::fresh::fresh(b'C', &mut memory);
+        let r = sign::run::run(
+            made.settings,
+            &mut memory,
+            &mut reply,
+            b"_01Z00_02E$AAU0020FF00BAU0020FF00CAU0020FF00DAU0020FF00EAU0020FF00FAU0020FF00GAU0020FF00HAU0020FF00IAU0020FF00JAU0020FF00KAU0020FF00LAU0020FF00_04",
+        );
+        Trial {
+            settings: r.settings,
+            memory,
+            reply,
+            number: 0,
+            done: 0,
+            refused: 0,
+        }
+    }
 
-fn number(rt: &impl Print, n: u64) -> io::Result<()> {
-    print!(rt; "{n}")
-}
+    fn run(&mut self, frame: &[u8]) {
+        let r = sign::run::run(self.settings, &mut self.memory, &mut self.reply, frame);
+        self.settings = r.settings;
+        self.number = self.number.saturating_add(u64::from(r.number));
+        self.done = self.done.saturating_add(u64::from(r.tally.done));
+        self.refused = self.refused.saturating_add(u64::from(r.tally.refused));
+    }
 
-fn line(rt: &impl Print, name: &[u8], n: u64) -> io::Result<()> {
-    text(rt, name)?;
-    number(rt, n)?;
-    text(rt, b"\n")
-}
-
-fn counts(rt: &impl Print, name: &[u8], s: Sum) -> io::Result<()> {
-    text(rt, name)?;
-    number(rt, s.number)?;
-    text(rt, b" ")?;
-    number(rt, s.done)?;
-    text(rt, b" ")?;
-    number(rt, s.refused)?;
-    text(rt, b"\n")
-}
-
-// A length that a call answered, small enough to count with.
-fn bounded(n: usize) -> usize
-    ensures { result ≤ 65536 }
-{
-    if n <= 65536 { n } else { 65536 }
-}
-
-// The label of notice k.
-fn label_of(k: u8) -> u8 {
-    b'A' - 1 + k % 16
+    fn print_counts(&self, rt: &impl Print, name: &str) -> io::Result<()> {
+        println!(rt; "{name} {} {} {}", self.number, self.done, self.refused)
+    }
 }
 
 // Notice k, as a summed frame.
-fn notice(k: u8, out: &mut [u8]) -> usize
-    ensures { result ≤ 65536 }
+fn notice(heap: Global, k: u8) -> io::Result<Vec<u8>>
+    requires { k ≤ 12 }
 {
-    let tens = b'0' + k / 10 % 10;
-    let ones = b'0' + k % 10;
-    let label = label_of(k);
-    let text = [
-        label, b'P', b'E', b'R', b'M', b'I', b'T', b' ', tens, ones, b' ', b'R', b'E', b'N', b'E',
-        b'W', b' ', b'B', b'Y', b' ', b'3', b'1', b' ', b'M', b'A', b'R', b'C', b'H',
-    ];
-    let w = frame::write(2, b"Z00", b'A', &text, out);
-    bounded(w.length)
+    let label = char::from(b'A' - 1 + k);
+    let text = format!(in heap; "{label}PERMIT {k:02} RENEW BY 31 MARCH")?;
+    let mut out = vec![in heap; 0u8; 64]?;
+    let w = frame::write(2, b"Z00", b'A', text.as_bytes(), &mut out);
+    out.truncate(w.length);
+    Ok(out)
 }
 
-// A fresh board with its twelve files.
-fn prepare(memory: &mut [u8], reply: &mut [u8]) -> Settings {
-    let made = sign::fresh::fresh(b'C', &mut *memory);
-    let settings = made.settings;
-    let r = sign::run::run(
-        settings,
-        &mut *memory,
-        &mut *reply,
-        b"_01Z00_02E$AAU0020FF00BAU0020FF00CAU0020FF00DAU0020FF00EAU0020FF00FAU0020FF00GAU0020FF00HAU0020FF00IAU0020FF00JAU0020FF00KAU0020FF00LAU0020FF00_04",
-    );
-    r.settings
-}
-
-// One run more.
-fn add(s: Sum, r: Answer) -> Sum {
-    let tally = r.tally;
-    let settings = r.settings;
-    Sum {
-        number: s.number % 65536 + r.number as u64,
-        done: s.done % 65536 + tally.done as u64,
-        refused: s.refused % 65536 + tally.refused as u64,
-        settings,
+// All twelve in one frame, or the number of the first joining that does not answer 0.
+fn pack(heap: Global, form: u8) -> io::Result<Result<Vec<u8>, u8>> {
+    let mut packed = notice(heap, 1)?;
+    for k in 2..=NOTICES {
+        let next = notice(heap, k)?;
+        let mut out = vec![in heap; 0u8; 4096]?;
+        let w = frame::join(form, &packed, &next, &mut out);
+        if w.number != 0 {
+            return Ok(Err(w.number));
+        }
+        out.truncate(w.length);
+        packed = out;
     }
-}
-
-fn none(settings: Settings) -> Sum {
-    Sum {
-        number: 0,
-        done: 0,
-        refused: 0,
-        settings,
-    }
-}
-
-// The first n bytes of a buffer run as a frame.
-fn run_part(s: Sum, memory: &mut [u8], reply: &mut [u8], bytes: &[u8], n: usize) -> Sum
-    requires { n ≤ 65536 }
-{
-    let k = n.min(bytes.len());
-    let settings = s.settings;
-    let r = sign::run::run(settings, &mut *memory, &mut *reply, &bytes[..k]);
-    add(s, r)
-}
-
-// Notice k run on a board.
-fn run_notice(s: Sum, k: u8, memory: &mut [u8], reply: &mut [u8]) -> Sum {
-    let mut one = [0u8; 64];
-    let n = notice(k, &mut one);
-    run_part(s, memory, reply, &one, n)
-}
-
-// The twelve one by one.
-fn separate(memory: &mut [u8], reply: &mut [u8]) -> Sum {
-    let settings = prepare(&mut *memory, &mut *reply);
-    let mut s = none(settings);
-    for k in 1..=NOTICES {
-        s = run_notice(s, k, &mut *memory, &mut *reply);
-    }
-    s
-}
-
-// The frame so far and the next one joined.
-fn join_parts(form: u8, a: &[u8], n: usize, b: &[u8], m: usize, out: &mut [u8]) -> frame::Written
-    requires { (n ≤ 65536) × (m ≤ 65536) }
-{
-    let i = n.min(a.len());
-    let j = m.min(b.len());
-    frame::join(form, &a[..i], &b[..j], out)
-}
-
-// What a joining answered: its number, and the length of what stands in the buffer.
-#[derive(Clone, Copy)]
-struct Joined {
-    number: u8,
-    length: usize,
-}
-
-// Notice k joined to the frame so far, which stands at the start of a.
-fn join_next(form: u8, so: Joined, k: u8, a: &mut [u8; 4096]) -> Joined
-    requires { so.length ≤ 65536 }
-    ensures { result.length ≤ 65536 }
-{
-    let mut one = [0u8; 64];
-    let mut out = [0u8; 4096];
-    let m = notice(k, &mut one);
-    let n = so.length;
-    let w = join_parts(form, a, n, &one, m, &mut out);
-    *a = out;
-    Joined {
-        number: w.number,
-        length: bounded(w.length),
-    }
-}
-
-// All twelve in one frame, at the start of a; the number of the last joining, or of the first that does not answer 0.
-fn pack(form: u8, a: &mut [u8; 4096]) -> Joined
-    ensures { result.length ≤ 65536 }
-{
-    let n = notice(1, a);
-    let mut so = Joined {
-        number: 0,
-        length: n,
-    };
-    let mut k: u8 = 2;
-    while k <= NOTICES && so.number == 0 {
-        so = join_next(form, so, k, a);
-        k += 1;
-    }
-    so
+    Ok(Ok(packed))
 }
 
 // `same` or another word.
-fn told(rt: &impl Print, name: &[u8], equal: bool, otherwise: &[u8]) -> io::Result<()> {
-    text(rt, name)?;
-    if equal {
-        text(rt, b"same\n")
-    } else {
-        text(rt, otherwise)
-    }
+fn told(rt: &impl Print, name: &str, equal: bool, otherwise: &str) -> io::Result<()> {
+    let word = if equal { "same" } else { otherwise };
+    println!(rt; "{name} {word}")
 }
 
-// Whether two indices are entry by entry the same.
-fn same_places(a: &[u16; 95], b: &[u16; 95]) -> bool {
-    let mut i: usize = 0;
-    while i < 95 {
-        if a[i] != b[i] {
-            return false;
-        }
-        i += 1;
-    }
-    true
-}
-
-fn same_settings(a: Settings, b: Settings) -> bool {
-    let x = [
-        a.hour, a.minute, a.month, a.day, a.year, a.format, a.speaker, a.address, a.own, a.files,
-        a.errors,
-    ];
-    let y = [
-        b.hour, b.minute, b.month, b.day, b.year, b.format, b.speaker, b.address, b.own, b.files,
-        b.errors,
-    ];
-    same(&x, &y)
-        && a.unused == b.unused
-        && same_places(&a.places, &b.places)
-        && a.offset == b.offset
-}
-
-// A content without its zeros.
-fn print_content(rt: &impl Print, content: &[u8]) -> io::Result<()> {
-    let n = octets::slices::plain_run(content, 0);
-    let k = (n % 65536).min(content.len());
-    text(rt, &content[..k])
-}
-
-// The file whose record stands at a place: its label and its content.
-fn print_file(rt: &impl Print, memory: &[u8], at: usize) -> io::Result<()>
-    requires { at + 43 ≤ length memory.now }
+// A file's label, and its content without the zeros.
+fn print_file(rt: &impl Print, file: &[u8]) -> io::Result<()>
+    requires { length file.now ≡ 43 }
 {
-    let label = [memory[at]];
-    let from = at + RECORD;
-    let to = from + SIZE;
-    text(rt, &label)?;
-    text(rt, b" ")?;
-    print_content(rt, &memory[from..to])?;
-    text(rt, b"\n")
+    rt.write_all(&file[..1])?;
+    rt.write_all(b" ")?;
+    let content = &file[RECORD..];
+    let end = content.iter().position(|b| *b == 0);
+    rt.write_all(&content[..end.unwrap_or(content.len())])?;
+    rt.write_all(b"\n")
 }
 
-// The twelve files.
 fn print_files(rt: &impl Print, memory: &[u8; 1024]) -> io::Result<()> {
     for k in 0..12usize {
-        print_file(rt, memory, k * PITCH)?;
+        let at = k * PITCH;
+        print_file(rt, &memory[at..at + PITCH])?;
     }
     Ok(())
 }
 
-// One form: the twelve packed and run, the twelve run one by one, and what both left.
-fn show(rt: &impl Print, form: u8) -> io::Result<()> {
-    let mut frame = [0u8; 4096];
-    line(rt, b"form ", form as u64)?;
-    let joined = pack(form, &mut frame);
-    if joined.number != 0 {
-        return line(rt, b"join ", joined.number as u64);
+// The twelve in one frame run on one board, and one by one on another.
+fn compare(rt: &impl Print, heap: Global, frame: &[u8]) -> io::Result<()> {
+    let mut packed = Trial::prepared();
+    packed.run(frame);
+    let mut apart = Trial::prepared();
+    for k in 1..=NOTICES {
+        apart.run(&notice(heap, k)?);
     }
-    line(rt, b"length ", joined.length as u64)?;
-    compare(rt, &frame, joined.length)
+    packed.print_counts(rt, "packed")?;
+    apart.print_counts(rt, "separate")?;
+    told(rt, "settings", packed.settings == apart.settings, "differ")?;
+    told(rt, "memory", packed.memory == apart.memory, "differs")?;
+    told(rt, "reply", packed.reply == apart.reply, "differs")?;
+    print_files(rt, &packed.memory)
 }
 
-fn compare(rt: &impl Print, frame: &[u8; 4096], n: usize) -> io::Result<()>
-    requires { n ≤ 65536 }
-{
-    let mut memory = [0u8; 1024];
-    let mut reply = [0u8; 1088];
-    let settings = prepare(&mut memory, &mut reply);
-    let packed = run_part(none(settings), &mut memory, &mut reply, frame, n);
-    let mut other = [0u8; 1024];
-    let mut answer = [0u8; 1088];
-    let apart = separate(&mut other, &mut answer);
-    counts(rt, b"packed ", packed)?;
-    counts(rt, b"separate ", apart)?;
-    let one = packed.settings;
-    let two = apart.settings;
-    told(rt, b"settings ", same_settings(one, two), b"differ\n")?;
-    told(rt, b"memory ", same(&memory, &other), b"differs\n")?;
-    told(rt, b"reply ", same(&reply, &answer), b"differs\n")?;
-    print_files(rt, &memory)
+// One form: the twelve packed and run, the twelve run one by one, and what both left.
+fn show(rt: &(impl Print + AllocGlobal), form: u8) -> io::Result<()> {
+    println!(rt; "form {form}")?;
+    match pack(rt.alloc(), form)? {
+        Ok(frame) => {
+            println!(rt; "length {}", frame.len())?;
+            compare(rt, rt.alloc(), &frame)
+        }
+        Err(number) => println!(rt; "join {number}"),
+    }
 }
 
 fn main(rt: HostRuntime) -> io::Result<()> {
-    show(&rt, 1)?;
-    show(&rt, 2)?;
-    show(&rt, 3)
+    for form in 1..=3 {
+        show(&rt, form)?;
+    }
+    Ok(())
 }

@@ -4,7 +4,7 @@ pub mod BlocksLaws
 pub mod Results
 pub mod Reckonings
 pub mod WritingLaws
-pub mod PartLaws
+pub mod TakingLaws
 pub mod ReformingLaws
 pub mod JoiningLaws
 pub mod Unique

@@ -1,25 +1,13 @@
--- The answers of the calls: forms, numbers and lengths.
+-- The answers of the calls: numbers and lengths.
 use mathlib.Core.Path.{◌≡◌}
-use mathlib.Core.Bool.{false}
 use Prim.Native.Nat.{ℕ, ◌<◌, ◌≤◌}
 use native.Mathlib.Omega.{arith}
 use borrow.Author.Rules.{rules}
-use borrow.Author.Tests.{le-leb, lt-leb, lt-ltb, le-ltb}
-use Rattle.octets.specs.Choice.{◌≤?◌}
+use borrow.Author.Tests.{lt-ltb, le-ltb}
 use Rattle.octets.specs.Bytes.{BLOCKS, TRANSLATED}
 use Rattle.forms.specs.InnerLengths.{form_length, render_length, Known}
-use Rattle.writing.specs.Output.{is_form, written_as}
+use Rattle.writing.specs.Output.{written_as}
 use Rattle.writing.specs.InnerSources.{Reckoned, fitted}
-use Rattle.writing.specs.declared.Written.{Written}
-
--- ---- forms
-
-module _ (form : ℕ) where
-  pub form-below : form < 1 → false ≡ is_form form
-  form-below h = rw (lt-leb 1 form h)
-
-  pub form-some : 1 ≤ form → form ≤? 3 ≡ is_form form
-  form-some h = rw (le-leb 1 form h)
 
 -- ---- numbers and lengths
 
@@ -27,26 +15,26 @@ module _ (form h n t e room : ℕ) where
   pub fit-known : Reckoned h n t e → Known h n t
   fit-known g = record { first = omega (arith, g.header); second = omega (arith, g.count); third = omega (arith, g.text) }
 
-  pub fit-many : BLOCKS < n → (r : Written) → r ≡ written_as 18 0 → r ≡ fitted form h n t e room
+  pub fit-many : BLOCKS < n → written_as 18 0 ≡ fitted form h n t e room
   unfolding fitted
-  fit-many k r q = rw (q, lt-ltb BLOCKS n k)
+  fit-many k = rw (lt-ltb BLOCKS n k)
 
   module _ (a : n ≤ BLOCKS) (long : ℕ) (l : long ≡ form_length form h n t) where
-    pub fit-long : TRANSLATED < long → (r : Written) → r ≡ written_as 18 0 → r ≡ fitted form h n t e room
+    pub fit-long : TRANSLATED < long → written_as 18 0 ≡ fitted form h n t e room
     unfolding fitted
-    fit-long k r q = rw (q, le-ltb BLOCKS n a, ← l, lt-ltb TRANSLATED long k)
+    fit-long k = rw (le-ltb BLOCKS n a, ← l, lt-ltb TRANSLATED long k)
 
     module _ (b : long ≤ TRANSLATED) where
       pub fit-reckoned : Reckoned h n t e → Known long n e
       fit-reckoned g = record { first = omega arith; second = omega arith; third = omega (arith, g.escapes) }
 
       module _ (raw : ℕ) (c : raw ≡ render_length form long n e) where
-        pub fit-full : room < raw → (r : Written) → r ≡ written_as 14 0 → r ≡ fitted form h n t e room
+        pub fit-full : room < raw → written_as 14 0 ≡ fitted form h n t e room
         unfolding fitted
-        fit-full k r q = rw (q, le-ltb BLOCKS n a, ← l, le-ltb TRANSLATED long b, ← c, lt-ltb room raw k)
+        fit-full k = rw (le-ltb BLOCKS n a, ← l, le-ltb TRANSLATED long b, ← c, lt-ltb room raw k)
 
         pub fit-good : raw ≤ room → written_as 0 raw ≡ fitted form h n t e room
         unfolding fitted
         fit-good k = rw (le-ltb BLOCKS n a, ← l, le-ltb TRANSLATED long b, ← c, le-ltb room raw k)
 
-pub ruleset answering = (form-below, form-some, fit-known, fit-many, fit-long, fit-reckoned, fit-full, fit-good, rules)
+pub ruleset answering = (fit-known, fit-many, fit-long, fit-reckoned, fit-full, fit-good, rules)

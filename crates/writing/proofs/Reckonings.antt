@@ -8,28 +8,33 @@ use mir.Val.{Fits}
 use native.Mathlib.Omega.{arith}
 use borrow.Author.Rules.{rules}
 use borrow.Author.Tests.{ne_eqb}
-use lib.ListN.{length, take, drop, length-take, length-drop, length-append}
-use lib.Seq.{take_all}
-use Rattle.octets.specs.Choice.{◌is◌, ◌isn't◌, ◌!◌, part}
+use lib.ListN.{length, drop, length-take, length-drop, length-append}
+use Rattle.std.specs.Prelude.{Ok}
+use Rattle.octets.specs.Choice.{◌is◌, ◌isn't◌, ◌!◌, all, part}
 use Rattle.octets.specs.Bytes.{STX, ETX, EOT, BLOCKS}
 use Rattle.octets.proofs.Counts.{count-few}
 use Rattle.octets.proofs.Tests.{choice, by-test, never}
 use Rattle.header.specs.Capitals.{header_capitals}
 use Rattle.header.proofs.CapitalsLaws.{header-long}
 use Rattle.body.specs.Body.{Block, Body, bad_body, body, blocks, has_read, all_right}
-use Rattle.body.specs.InnerSurveying.{surveyed, text_bytes}
+use Rattle.body.specs.InnerSurveying.{surveyed, survey_in, text_bytes}
 use Rattle.body.specs.InnerTaking.{behind_data, taken_at}
 use Rattle.body.specs.Steps.{is_body, blocks_in, body_at, blocks_at}
-use Rattle.body.specs.declared.surveying.Survey.{Survey}
 use Rattle.body.proofs.Plain.{Plain}
+use Rattle.body.proofs.WellFormed.{anything, Blocks}
 use Rattle.body.proofs.SurveyingLaws.{survey-count, survey-right, survey-read, survey-bytes}
 use Rattle.body.proofs.TakingLaws.{Stand, stand-at}
+use Rattle.reading.specs.declared.reading.Parts.{Parts}
+use Rattle.forms.specs.Forms.{is_itself}
 use Rattle.forms.specs.InnerLengths.{is_escaped, escapes}
+use Rattle.forms.proofs.FormNumbers.{kinds}
 use Rattle.forms.proofs.Escapes.{escapes-body}
 use Rattle.forms.proofs.FormLengths.{header-itself, text-append, escapes-append}
-use Rattle.writing.specs.InnerSources.{Source, Parted, Headed, Paired, Reckoned, escapes_in, fitted, answered}
+use Rattle.writing.specs.InnerSources.{Parted, Reckoned, escapes_in, fitted, answered}
+use Rattle.writing.specs.InnerFrames.{text_of, blocks_of}
+use Rattle.writing.specs.declared.source.Source.{Source}
 use Rattle.writing.specs.declared.Written.{Written}
-use Rattle.writing.proofs.Results.{blocks-good, fitted-by, delivering}
+use Rattle.writing.proofs.Results.{blocks-good, fitted-by}
 
 -- ---- what a survey says of the blocks
 
@@ -58,34 +63,38 @@ stand-bytes s at (b ∷ bs) w =
     let l : length b.text ≤ (taken_at s at).to - (at + 2) = rw n.text at k in
     omega (arith, n.ordered, n.inside, next-end s at, stand-bytes s (taken_at s at).next bs w.1)
 
-module _ {s : List ℕ} {from : ℕ} {v : Survey} (g : Source s from v) where
-  told : v ≡ surveyed (body (blocks_at s from))
+module _ {s : List ℕ} {p : Parts} (g : Parted s p) where
+  told : surveyed (body (blocks_at s p.body)) ≡ Ok p.seen
   unfolding body_at blocks_at
-  told = g.seen ∙ ap surveyed (good-body (blocks BLOCKS (drop from s)) g.good)
+  told = ap surveyed (sym (good-body (blocks BLOCKS (drop p.body s)) g.good)) ∙ g.seen
 
-  pub seen-count : v.count ≡ length (blocks_at s from)
-  seen-count = ap (λ x. x.count) told ∙ survey-count (blocks_at s from)
+  seen-known : p.seen ≡ survey_in (surveyed (body (blocks_at s p.body)))
+  unfolding survey_in
+  seen-known = rw told
 
-  pub seen-right : v.right ≡ all_right (blocks_at s from)
-  seen-right = ap (λ x. x.right) told ∙ survey-right (blocks_at s from)
+  pub seen-count : p.seen.count ≡ length (blocks_at s p.body)
+  seen-count = ap (λ x. x.count) seen-known ∙ survey-count (blocks_at s p.body)
 
-  pub seen_read : v.read ≡ has_read (blocks_at s from)
-  seen_read = ap (λ x. x.read) told ∙ survey-read (blocks_at s from)
+  pub seen-right : p.seen.right ≡ all_right (blocks_at s p.body)
+  seen-right = ap (λ x. x.right) seen-known ∙ survey-right (blocks_at s p.body)
 
-  seen_bytes : v.bytes ≡ text_bytes (blocks_at s from)
-  seen_bytes = ap (λ x. x.bytes) told ∙ survey-bytes (blocks_at s from)
+  pub seen_read : p.seen.read ≡ has_read (blocks_at s p.body)
+  seen_read = ap (λ x. x.read) seen-known ∙ survey-read (blocks_at s p.body)
 
-  blocks-few : v.count ≤ 64
-  blocks-few = omega (arith, seen-count, (blocks-good s from g.good).few)
+  seen_bytes : p.seen.bytes ≡ text_bytes (blocks_at s p.body)
+  seen_bytes = ap (λ x. x.bytes) seen-known ∙ survey-bytes (blocks_at s p.body)
 
-  bytes-few : v.bytes ≤ 8192
-  bytes-few = omega (arith, seen_bytes, stand-bytes s from (blocks_at s from) (stand-at s from g.good), g.short)
+  blocks-few : p.seen.count ≤ 64
+  blocks-few = omega (arith, seen-count, (blocks-good s p.body g.good).few)
 
-  escapes-in : (form : ℕ) → escapes_in form (blocks_at s from) ≤ 8192
+  bytes-few : p.seen.bytes ≤ 8192
+  bytes-few = omega (arith, seen_bytes, stand-bytes s p.body (blocks_at s p.body) (stand-at s p.body g.good), g.short)
+
+  escapes-in : (form : ℕ) → escapes_in form (blocks_at s p.body) ≤ 8192
   unfolding escapes_in
   escapes-in form =
       choice (λ n. n ≤ 8192) (form is 3)
-      (λ e. omega (arith, escapes-body s from g.good, count-few is_escaped (drop from s), length-drop from s, g.short))
+      (λ e. omega (arith, escapes-body s p.body g.good, count-few is_escaped (drop p.body s), length-drop p.body s, g.short))
       (λ e. omega arith)
 
 -- ---- the escapes of a good body
@@ -94,50 +103,71 @@ pub escapes-other : (form : ℕ) (bs : List Block) → (form ≡ 3 → ⊥) → 
 unfolding escapes_in
 escapes-other form bs n = rw (ne_eqb form 3 n)
 
-module _ (s : List ℕ) (from : ℕ) (l : from ≤ length s) where
-  rest-whole : take (length s - from) (drop from s) ≡ drop from s
-  rest-whole = take_all (length s - from) (drop from s) (simp length-drop (omega arith))
+module _ (x : Source) (l : List ℕ) (d : l ≡ drop x.parts.body x.bytes.now) where
+  pub escapes-short : length l ≤ 8192
+  escapes-short = rw d (simp length-drop (omega (arith, x.parted.short)))
 
-  pub escapes-short : length s ≤ 8192 → length (take (length s - from) (drop from s)) ≤ 8192
-  escapes-short h = rw rest-whole (simp length-drop (omega arith))
+  pub escapes-all : (form : ℕ) → form ≡ 3 → (n : ℕ) → n ≡ escapes l → n ≡ escapes_in form (blocks_of x)
+  unfolding escapes_in blocks_of
+  escapes-all form t n e = rw t (e ∙ ap escapes d ∙ escapes-body x.bytes.now x.parts.body x.parted.good)
 
-  pub escapes-all : (form : ℕ) → form ≡ 3 → body_at s from ≡ true → (n : ℕ) → n ≡ escapes (take (length s - from) (drop from s))
-      → n ≡ escapes_in form (blocks_at s from)
-  unfolding escapes_in
-  escapes-all form t g n e = rw t (e ∙ ap escapes rest-whole ∙ escapes-body s from g)
-
-pub ruleset escaping = (escapes-other, escapes-short, escapes-all, rules)
+pub ruleset escaping = (kinds, escapes-other, escapes-short, escapes-all, rules)
 
 -- ---- one frame in a form
 
-module _ {s : List ℕ} {i j : ℕ} {v : Survey} (g : Parted s i j v) where
-  head-long : length (header_capitals (part i j s)) ≡ j - i
-  head-long = header-long (part i j s) ∙ simp (length-take, length-drop) (omega (arith, g.source.inside))
+module _ (x : Source) where
+  source : Parted x.bytes.now x.parts
+  source = x.parted
 
-  pub parted-source : Source s j v
-  parted-source = g.source
+  text-long : length (text_of x) ≤ 8192
+  unfolding text_of
+  text-long = simp (length-take, length-drop) (omega (arith, source.inside, source.short))
 
-  pub parted-headed : Headed s i j v.count
-  parted-headed = record { good = g.source.good; counted = seen-count g.source; ordered = g.ordered; inside = g.source.inside }
+  some-itself : all is_itself (header_capitals (text_of x)) ≡ true
+  unfolding text_of
+  some-itself = header-itself (text_of x) x.parted.headed
 
-  module _ (form : ℕ) (e : ℕ) (f : e ≡ escapes_in form (blocks_at s j)) where
-    pub parted-reckoned : Reckoned (j - i) v.count v.bytes e
-    parted-reckoned =
-        record {
-          header = omega (arith, g.source.inside, g.source.short);
-          count = omega (arith, blocks-few g.source);
-          text = omega (arith, bytes-few g.source);
-          escapes = omega (arith, escapes-in g.source form);
-        }
+  source-good : Blocks anything 64 (blocks_of x)
+  unfolding blocks_of
+  source-good = blocks-good x.bytes.now x.parts.body source.good
 
-    pub parted-fitted : (room : ℕ) (r : Written) → r ≡ fitted form (j - i) v.count v.bytes e room
-        → r ≡ answered form (header_capitals (part i j s)) (blocks_at s j) room
-    parted-fitted room r q =
-        let w = blocks-good s j g.source.good in
-        fitted-by form (header_capitals (part i j s)) (blocks_at s j) w.some (header-itself (part i j s) g.headed) w.plain
-        (j - i) v.count v.bytes e (sym head-long) (seen-count g.source) (seen_bytes g.source) f room r q
+  pub source-count : x.parts.seen.count ≡ length (blocks_of x)
+  unfolding blocks_of
+  source-count = seen-count source
 
-pub ruleset reckoning = (parted-source, parted-headed, parted-reckoned, parted-fitted, rules)
+  pub source-read : x.parts.seen.read ≡ has_read (blocks_of x)
+  unfolding blocks_of
+  source-read = seen_read source
+
+  source-bytes : x.parts.seen.bytes ≡ text_bytes (blocks_of x)
+  unfolding blocks_of
+  source-bytes = seen_bytes source
+
+  source-escapes : (form : ℕ) → escapes_in form (blocks_of x) ≤ 8192
+  unfolding blocks_of
+  source-escapes form = escapes-in source form
+
+  module _ (h : List ℕ) (a : h ≡ text_of x) where
+    header-length : length h ≡ length (header_capitals (text_of x))
+    header-length = ap (λ (l : List ℕ). length l) a ∙ sym (header-long (text_of x))
+
+    module _ (form : ℕ) (e : ℕ) (f : e ≡ escapes_in form (blocks_of x)) where
+      pub source-reckoned : Reckoned (length h) x.parts.seen.count x.parts.seen.bytes e
+      source-reckoned =
+          record {
+            header = rw a (omega (arith, text-long));
+            count = omega (arith, blocks-few source);
+            text = omega (arith, bytes-few source);
+            escapes = omega (arith, source-escapes form);
+          }
+
+      pub source-fitted : (room : ℕ) (r : Written) → r ≡ fitted form (length h) x.parts.seen.count x.parts.seen.bytes e room
+          → r ≡ answered form (header_capitals (text_of x)) (blocks_of x) room
+      source-fitted room r q =
+          fitted-by form (header_capitals (text_of x)) (blocks_of x) source-good.some some-itself source-good.plain
+          (length h) x.parts.seen.count x.parts.seen.bytes e header-length source-count source-bytes f room r q
+
+pub ruleset reckoning = (source-reckoned, source-fitted, rules)
 
 -- ---- two frames in a form
 
@@ -149,44 +179,36 @@ escapes-both : (form : ℕ) (bs cs : List Block) → escapes_in form bs + escape
 unfolding escapes_in
 escapes-both form bs cs = by-test (form is 3) (λ e. rw e (sym (escapes-append bs cs))) (λ e. rw e)
 
-module _ {s : List ℕ} {i j : ℕ} {v : Survey} (g : Parted s i j v) {t : List ℕ} {l : ℕ} {w : Survey} (k : Source t l w) where
-  pub both-count : Fits w64 (v.count + w.count)
-  both-count = omega (arith, blocks-few g.source, blocks-few k)
+module _ (x y : Source) where
+  pub both-count : Fits w64 (x.parts.seen.count + y.parts.seen.count)
+  both-count = omega (arith, blocks-few (source x), blocks-few (source y))
 
-  pub both_bytes : Fits w64 (v.bytes + w.bytes)
-  both_bytes = omega (arith, bytes-few g.source, bytes-few k)
+  pub both_bytes : Fits w64 (x.parts.seen.bytes + y.parts.seen.bytes)
+  both_bytes = omega (arith, bytes-few (source x), bytes-few (source y))
 
-  pub both-paired : Paired s i j v.count t l w.count
-  both-paired = record { first = parted-headed g; good = k.good; counted = seen-count k }
-
-  module _ (form : ℕ) (d e : ℕ) (a : d ≡ escapes_in form (blocks_at s j)) (b : e ≡ escapes_in form (blocks_at t l)) where
+  module _ (form : ℕ) (d e : ℕ) (a : d ≡ escapes_in form (blocks_of x)) (b : e ≡ escapes_in form (blocks_of y)) where
     pub both-escapes : Fits w64 (d + e)
-    both-escapes = omega (arith, escapes-in g.source form, escapes-in k form)
+    both-escapes = omega (arith, source-escapes x form, source-escapes y form)
 
-    pub both-reckoned : Reckoned (j - i) (v.count + w.count) (v.bytes + w.bytes) (d + e)
-    both-reckoned =
-        record {
-          header = omega (arith, g.source.inside, g.source.short);
-          count = omega (arith, blocks-few g.source, blocks-few k);
-          text = omega (arith, bytes-few g.source, bytes-few k);
-          escapes = omega (arith, escapes-in g.source form, escapes-in k form);
-        }
+    module _ (h : List ℕ) (f : h ≡ text_of x) where
+      pub both-reckoned : Reckoned (length h) (x.parts.seen.count + y.parts.seen.count) (x.parts.seen.bytes + y.parts.seen.bytes) (d + e)
+      both-reckoned =
+          record {
+            header = rw f (omega (arith, text-long x));
+            count = omega (arith, blocks-few (source x), blocks-few (source y));
+            text = omega (arith, bytes-few (source x), bytes-few (source y));
+            escapes = omega (arith, source-escapes x form, source-escapes y form);
+          }
 
-    pub both-fitted : (room : ℕ) (r : Written) → r ≡ fitted form (j - i) (v.count + w.count) (v.bytes + w.bytes) (d + e) room
-        → r ≡ answered form (header_capitals (part i j s)) (blocks_at s j ++ blocks_at t l) room
-    both-fitted room r q =
-        let x = blocks-good s j g.source.good in
-        let y = blocks-good t l k.good in
-        let bs = blocks_at s j in
-        let cs = blocks_at t l in
-        fitted-by form (header_capitals (part i j s)) (bs ++ cs)
-        (rw length-append (omega (arith, x.some))) (header-itself (part i j s) g.headed) (plain-append bs cs x.plain y.plain)
-        (j - i) (v.count + w.count) (v.bytes + w.bytes) (d + e)
-        (sym (head-long g)) (omega (arith, seen-count g.source, seen-count k, length-append bs cs))
-        (omega (arith, seen_bytes g.source, seen_bytes k, text-append bs cs)) (omega (arith, a, b, escapes-both form bs cs)) room r q
+      pub both-fitted : (room : ℕ) (r : Written) → r ≡ fitted form (length h) (x.parts.seen.count + y.parts.seen.count) (x.parts.seen.bytes + y.parts.seen.bytes) (d + e) room
+          → r ≡ answered form (header_capitals (text_of x)) (blocks_of x ++ blocks_of y) room
+      both-fitted room r q =
+          let bs = blocks_of x in
+          let cs = blocks_of y in
+          fitted-by form (header_capitals (text_of x)) (bs ++ cs)
+          (rw length-append (omega (arith, (source-good x).some))) (some-itself x) (plain-append bs cs (source-good x).plain (source-good y).plain)
+          (length h) (x.parts.seen.count + y.parts.seen.count) (x.parts.seen.bytes + y.parts.seen.bytes) (d + e)
+          (header-length x h f) (omega (arith, source-count x, source-count y, length-append bs cs))
+          (omega (arith, source-bytes x, source-bytes y, text-append bs cs)) (omega (arith, a, b, escapes-both form bs cs)) room r q
 
-pub ruleset pairing = (parted-source, both-count, both_bytes, both-paired, both-escapes, both-reckoned, both-fitted, escaping)
-
-pub ruleset delivered-one = (parted-headed, delivering)
-
-pub ruleset delivered-both = (both-paired, delivering)
+pub ruleset pairing = (both-count, both_bytes, both-escapes, both-reckoned, both-fitted, rules)

@@ -6,16 +6,17 @@ use Prim.Native.Nat.{ℕ, ◌+◌, ◌≤◌}
 use native.Mathlib.Nat.{zero-add}
 use native.Mathlib.Omega.{arith}
 use borrow.Author.Rules.{rules}
-use borrow.Author.Tests.{eqb-true, ne_eqb, ltb-false}
+use borrow.Author.Tests.{eqb-true, ltb-false}
 use lib.Dec.{lit≤}
 use lib.ListN.{length, drop, length-append}
 use lib.Seq.{sets-eq}
-use Rattle.octets.specs.Choice.{◌is◌, ◌<?◌, all, part}
+use Rattle.std.specs.Prelude.{Result, Ok, Err}
+use Rattle.octets.specs.Choice.{◌is◌, ◌<?◌, all}
 use Rattle.octets.specs.Buffer.{overlay}
 use Rattle.octets.specs.Bytes.{EOT, BLOCKS, TRANSLATED}
 use Rattle.octets.proofs.Tests.{by-test, never}
 use Rattle.header.specs.Capitals.{header_capitals}
-use Rattle.body.specs.Body.{Block, block, Body, bad_body, body, blocks}
+use Rattle.body.specs.Body.{Block, Body, bad_body, body, blocks}
 use Rattle.body.specs.InnerSurveying.{text_bytes}
 use Rattle.body.specs.Steps.{is_body, blocks_in, body_at, blocks_at}
 use Rattle.body.proofs.Plain.{Plain}
@@ -27,8 +28,13 @@ use Rattle.forms.proofs.FormLengths.{form-length, render-length}
 use Rattle.forms.proofs.PieceLaws.{pieces-append, render-headed}
 use Rattle.forms.proofs.FormsLaws.{puts-as, joined, takes_front, takes-behind}
 use Rattle.writing.specs.Output.{is_over, output, written_as, put_number, put}
-use Rattle.writing.specs.InnerSources.{Headed, Paired, Puttable, escapes_in, fitted, answered}
+use Rattle.writing.specs.InnerSources.{escapes_in, fitted, answered}
+use Rattle.writing.specs.InnerRefusals.{number_of, told}
+use Rattle.writing.specs.InnerFrames.{text_of, blocks_of, block_of}
 use Rattle.writing.specs.declared.Written.{Written}
+use Rattle.writing.specs.declared.refusal.Refusal.{Refusal}
+use Rattle.writing.specs.declared.single.Single.{Single}
+use Rattle.writing.specs.declared.source.Source.{Source}
 
 -- ---- the blocks of a good body
 
@@ -48,25 +54,22 @@ headed-as : (form : ℕ) (h : List ℕ) (bs : List Block) → headed form h bs �
 unfolding headed
 headed-as form h bs = refl
 
-module _ {o : List ℕ} (form : ℕ) (h : List ℕ) (bs : List Block) where
-  pub headed-front : Takes o 0 (encode form (headed form h bs)) → Takes o 0 (encode form (heading form h))
-  headed-front t = takes_front form (heading form h) (pieces form true bs) (rw (headed-as form h bs) at t)
+module _ {o : List ℕ} (form : ℕ) (x : Source) (h : List ℕ) (a : h ≡ text_of x) where
+  pub headed-front : Takes o 0 (encode form (headed form (header_capitals (text_of x)) (blocks_of x))) → Takes o 0 (encode form (heading form (header_capitals h)))
+  headed-front t = rw a (takes_front form (heading form (header_capitals (text_of x))) (pieces form true (blocks_of x)) (rw (headed-as form (header_capitals (text_of x)) (blocks_of x)) at t))
 
-  module _ {o₁ : List ℕ} {a : ℕ} (p : Puts o 0 (encode form (heading form h)) o₁ a) where
-    headed-behind : Takes o 0 (encode form (headed form h bs)) → Takes o₁ a (encode form (pieces form true bs))
-    headed-behind t = takes-behind form (heading form h) (pieces form true bs) (rw (headed-as form h bs) at t) p
+  module _ {o₁ : List ℕ} {n : ℕ} (p : Puts o 0 (encode form (heading form (header_capitals h))) o₁ n) where
+    same_put : Puts o 0 (encode form (heading form (header_capitals (text_of x)))) o₁ n
+    same_put = rw (← a) p
 
-    pub headed-put : {o₂ : List ℕ} {n : ℕ} → Puts o₁ a (encode form (pieces form true bs)) o₂ n → Puts o 0 (encode form (headed form h bs)) o₂ n
-    headed-put q = rw (headed-as form h bs) (joined form (heading form h) (pieces form true bs) p q)
+    pub headed-behind : Takes o 0 (encode form (headed form (header_capitals (text_of x)) (blocks_of x))) → Takes o₁ n (encode form (pieces form true (blocks_of x)))
+    headed-behind t = takes-behind form (heading form (header_capitals (text_of x))) (pieces form true (blocks_of x)) (rw (headed-as form (header_capitals (text_of x)) (blocks_of x)) at t) same_put
 
--- its blocks have places behind it
-pub headed-ready : {o o₁ : List ℕ} {a : ℕ} (form : ℕ) {s : List ℕ} {i from count : ℕ} → Headed s i from count
-    → Takes o 0 (encode form (headed form (header_capitals (part i from s)) (blocks_at s from)))
-    → Puts o 0 (encode form (heading form (header_capitals (part i from s)))) o₁ a → Puttable o₁ a form true s from count
-headed-ready form {s} {i} {from} g t p =
-    record { good = g.good; counted = g.counted; room = headed-behind form (header_capitals (part i from s)) (blocks_at s from) p t }
+    pub headed-put : {o₂ : List ℕ} {k : ℕ} → Puts o₁ n (encode form (pieces form true (blocks_of x))) o₂ k
+        → Puts o 0 (encode form (headed form (header_capitals (text_of x)) (blocks_of x))) o₂ k
+    headed-put q = rw (headed-as form (header_capitals (text_of x)) (blocks_of x)) (joined form (heading form (header_capitals (text_of x))) (pieces form true (blocks_of x)) same_put q)
 
-pub ruleset heads = (headed-front, headed-ready, headed-put, rules)
+pub ruleset heads = (headed-front, headed-behind, headed-put, rules)
 
 -- ---- a whole form
 
@@ -81,107 +84,101 @@ module _ {o : List ℕ} (form : ℕ) (h : List ℕ) (bs : List Block) (e : 1 ≤
     ended-put : {o₂ : List ℕ} {n : ℕ} → Puts o₁ a (encode form (EOT ∷ [])) o₂ n → Puts o 0 (render form h bs) o₂ n
     ended-put q = puts-as (render-headed form h bs e) (joined form (headed form h bs) (EOT ∷ []) p q)
 
+source-some : (x : Source) → 1 ≤ length (blocks_of x)
+unfolding blocks_of
+source-some x = (blocks-good x.bytes.now x.parts.body x.parted.good).some
+
 -- of one frame
-module _ {s : List ℕ} {i from count : ℕ} (form : ℕ) (g : Headed s i from count) where
-  some : 1 ≤ length (blocks_at s from)
-  some = (blocks-good s from g.good).some
+module _ (form : ℕ) (x : Source) {o : List ℕ} where
+  pub reformed-front : Takes o 0 (render form (header_capitals (text_of x)) (blocks_of x)) → Takes o 0 (encode form (headed form (header_capitals (text_of x)) (blocks_of x)))
+  reformed-front t = ended-front form (header_capitals (text_of x)) (blocks_of x) (source-some x) t
 
-  pub reformed-front : {o : List ℕ} → Takes o 0 (render form (header_capitals (part i from s)) (blocks_at s from))
-      → Takes o 0 (encode form (headed form (header_capitals (part i from s)) (blocks_at s from)))
-  reformed-front t = ended-front form (header_capitals (part i from s)) (blocks_at s from) some t
+  module _ {o₁ : List ℕ} {a : ℕ} (p : Puts o 0 (encode form (headed form (header_capitals (text_of x)) (blocks_of x))) o₁ a) where
+    pub reformed-behind : Takes o 0 (render form (header_capitals (text_of x)) (blocks_of x)) → Takes o₁ a (encode form (EOT ∷ []))
+    reformed-behind t = ended-behind form (header_capitals (text_of x)) (blocks_of x) (source-some x) p t
 
-  module _ {o o₁ : List ℕ} {a : ℕ} (p : Puts o 0 (encode form (headed form (header_capitals (part i from s)) (blocks_at s from))) o₁ a) where
-    pub reformed-behind : Takes o 0 (render form (header_capitals (part i from s)) (blocks_at s from)) → Takes o₁ a (encode form (EOT ∷ []))
-    reformed-behind t = ended-behind form (header_capitals (part i from s)) (blocks_at s from) some p t
-
-    pub reformed-put : {o₂ : List ℕ} {n : ℕ} → Puts o₁ a (encode form (EOT ∷ [])) o₂ n
-        → Puts o 0 (render form (header_capitals (part i from s)) (blocks_at s from)) o₂ n
-    reformed-put q = ended-put form (header_capitals (part i from s)) (blocks_at s from) some p q
+    pub reformed-put : {o₂ : List ℕ} {n : ℕ} → Puts o₁ a (encode form (EOT ∷ [])) o₂ n → Puts o 0 (render form (header_capitals (text_of x)) (blocks_of x)) o₂ n
+    reformed-put q = ended-put form (header_capitals (text_of x)) (blocks_of x) (source-some x) p q
 
 pub ruleset wholes = (reformed-front, reformed-behind, reformed-put, rules)
 
 -- of two
-pub both-headed : {s : List ℕ} {i from count : ℕ} {t : List ℕ} {place more : ℕ} → Paired s i from count t place more → Headed s i from count
-both-headed g = g.first
+module _ (form : ℕ) (x y : Source) where
+  both_some : 1 ≤ length (blocks_of x ++ blocks_of y)
+  both_some = rw length-append (omega (arith, source-some x))
 
-module _ {s : List ℕ} {i from count : ℕ} {t : List ℕ} {place more : ℕ} (form : ℕ) (g : Paired s i from count t place more) where
-  first_some : 1 ≤ length (blocks_at s from)
-  first_some = (blocks-good s from g.first.good).some
-
-  both_some : 1 ≤ length (blocks_at s from ++ blocks_at t place)
-  both_some = rw length-append (omega (arith, first_some))
-
-  both-as : headed form (header_capitals (part i from s)) (blocks_at s from ++ blocks_at t place)
-      ≡ headed form (header_capitals (part i from s)) (blocks_at s from) ++ pieces form false (blocks_at t place)
+  both-as : headed form (header_capitals (text_of x)) (blocks_of x ++ blocks_of y)
+      ≡ headed form (header_capitals (text_of x)) (blocks_of x) ++ pieces form false (blocks_of y)
   unfolding headed
   both-as =
-      let h : List ℕ = header_capitals (part i from s) in
-      ap (λ (l : List ℕ). heading form h ++ l) (pieces-append form true (blocks_at s from) (blocks_at t place) first_some)
-      ∙ sym (append_assoc (heading form h) (pieces form true (blocks_at s from)) (pieces form false (blocks_at t place)))
-
-  pub both-front : {o : List ℕ} → Takes o 0 (encode form (headed form (header_capitals (part i from s)) (blocks_at s from ++ blocks_at t place)))
-      → Takes o 0 (encode form (headed form (header_capitals (part i from s)) (blocks_at s from)))
-  both-front w = takes_front form (headed form (header_capitals (part i from s)) (blocks_at s from)) (pieces form false (blocks_at t place)) (rw both-as at w)
-
-  module _ {o o₁ : List ℕ} {a : ℕ} (p : Puts o 0 (encode form (headed form (header_capitals (part i from s)) (blocks_at s from))) o₁ a) where
-    pub both-ready : Takes o 0 (encode form (headed form (header_capitals (part i from s)) (blocks_at s from ++ blocks_at t place)))
-        → Puttable o₁ a form false t place more
-    both-ready w =
-        record {
-          good = g.good;
-          counted = g.counted;
-          room = takes-behind form (headed form (header_capitals (part i from s)) (blocks_at s from)) (pieces form false (blocks_at t place)) (rw both-as at w) p;
-        }
-
-    pub both-put : {o₂ : List ℕ} {n : ℕ} → Puts o₁ a (encode form (pieces form false (blocks_at t place))) o₂ n
-        → Puts o 0 (encode form (headed form (header_capitals (part i from s)) (blocks_at s from ++ blocks_at t place))) o₂ n
-    both-put q = rw both-as (joined form (headed form (header_capitals (part i from s)) (blocks_at s from)) (pieces form false (blocks_at t place)) p q)
-
-  pub joined-front : {o : List ℕ} → Takes o 0 (render form (header_capitals (part i from s)) (blocks_at s from ++ blocks_at t place))
-      → Takes o 0 (encode form (headed form (header_capitals (part i from s)) (blocks_at s from ++ blocks_at t place)))
-  joined-front w = ended-front form (header_capitals (part i from s)) (blocks_at s from ++ blocks_at t place) both_some w
-
-  module _ {o o₁ : List ℕ} {a : ℕ} (p : Puts o 0 (encode form (headed form (header_capitals (part i from s)) (blocks_at s from ++ blocks_at t place))) o₁ a) where
-    pub joined-behind : Takes o 0 (render form (header_capitals (part i from s)) (blocks_at s from ++ blocks_at t place)) → Takes o₁ a (encode form (EOT ∷ []))
-    joined-behind w = ended-behind form (header_capitals (part i from s)) (blocks_at s from ++ blocks_at t place) both_some p w
-
-    pub joined-put : {o₂ : List ℕ} {n : ℕ} → Puts o₁ a (encode form (EOT ∷ [])) o₂ n
-        → Puts o 0 (render form (header_capitals (part i from s)) (blocks_at s from ++ blocks_at t place)) o₂ n
-    joined-put q = ended-put form (header_capitals (part i from s)) (blocks_at s from ++ blocks_at t place) both_some p q
-
-pub ruleset pairs = (both-front, both-headed, both-ready, both-put, joined-front, joined-behind, joined-put, rules)
-
--- of one command
-module _ (form : ℕ) (h : List ℕ) (c : ℕ) (d : List ℕ) where
-  single-as : headed form h (block c d true ∷ []) ≡ heading form h ++ piece form true c d
-  unfolding headed pieces
-  single-as = rw (append-nil (piece form true c d))
+      let h : List ℕ = header_capitals (text_of x) in
+      ap (λ (l : List ℕ). heading form h ++ l) (pieces-append form true (blocks_of x) (blocks_of y) (source-some x))
+      ∙ sym (append_assoc (heading form h) (pieces form true (blocks_of x)) (pieces form false (blocks_of y)))
 
   module _ {o : List ℕ} where
-    pub single-heading : Takes o 0 (encode form (headed form h (block c d true ∷ []))) → Takes o 0 (encode form (heading form h))
-    single-heading t = takes_front form (heading form h) (piece form true c d) (rw single-as at t)
+    both-front : Takes o 0 (render form (header_capitals (text_of x)) (blocks_of x ++ blocks_of y))
+        → Takes o 0 (encode form (headed form (header_capitals (text_of x)) (blocks_of x) ++ pieces form false (blocks_of y)))
+    both-front w = rw both-as at (ended-front form (header_capitals (text_of x)) (blocks_of x ++ blocks_of y) both_some w)
 
-    module _ {o₁ : List ℕ} {a : ℕ} (p : Puts o 0 (encode form (heading form h)) o₁ a) where
-      pub single-piece : Takes o 0 (encode form (headed form h (block c d true ∷ []))) → Takes o₁ a (encode form (piece form true c d))
-      single-piece t = takes-behind form (heading form h) (piece form true c d) (rw single-as at t) p
+    pub joined-front : Takes o 0 (render form (header_capitals (text_of x)) (blocks_of x ++ blocks_of y))
+        → Takes o 0 (encode form (headed form (header_capitals (text_of x)) (blocks_of x)))
+    joined-front w = takes_front form (headed form (header_capitals (text_of x)) (blocks_of x)) (pieces form false (blocks_of y)) (both-front w)
 
-      pub single-put : {o₂ : List ℕ} {n : ℕ} → Puts o₁ a (encode form (piece form true c d)) o₂ n
-          → Puts o 0 (encode form (headed form h (block c d true ∷ []))) o₂ n
-      single-put q = rw single-as (joined form (heading form h) (piece form true c d) p q)
+    module _ {o₁ : List ℕ} {a : ℕ} (p : Puts o 0 (encode form (headed form (header_capitals (text_of x)) (blocks_of x))) o₁ a) where
+      pub joined-second : Takes o 0 (render form (header_capitals (text_of x)) (blocks_of x ++ blocks_of y)) → Takes o₁ a (encode form (pieces form false (blocks_of y)))
+      joined-second w = takes-behind form (headed form (header_capitals (text_of x)) (blocks_of x)) (pieces form false (blocks_of y)) (both-front w) p
 
-    pub written-front : Takes o 0 (render form h (block c d true ∷ [])) → Takes o 0 (encode form (headed form h (block c d true ∷ [])))
-    written-front t = ended-front form h (block c d true ∷ []) (lit≤ tt) t
+      module _ {o₂ : List ℕ} {b : ℕ} (q : Puts o₁ a (encode form (pieces form false (blocks_of y))) o₂ b) where
+        both-put : Puts o 0 (encode form (headed form (header_capitals (text_of x)) (blocks_of x ++ blocks_of y))) o₂ b
+        both-put = rw both-as (joined form (headed form (header_capitals (text_of x)) (blocks_of x)) (pieces form false (blocks_of y)) p q)
 
-    module _ {o₁ : List ℕ} {a : ℕ} (p : Puts o 0 (encode form (headed form h (block c d true ∷ []))) o₁ a) where
-      pub written_behind : Takes o 0 (render form h (block c d true ∷ [])) → Takes o₁ a (encode form (EOT ∷ []))
-      written_behind t = ended-behind form h (block c d true ∷ []) (lit≤ tt) p t
+        pub joined-behind : Takes o 0 (render form (header_capitals (text_of x)) (blocks_of x ++ blocks_of y)) → Takes o₂ b (encode form (EOT ∷ []))
+        joined-behind w = ended-behind form (header_capitals (text_of x)) (blocks_of x ++ blocks_of y) both_some both-put w
 
-      pub written-put : {o₂ : List ℕ} {n : ℕ} → Puts o₁ a (encode form (EOT ∷ [])) o₂ n → Puts o 0 (render form h (block c d true ∷ [])) o₂ n
-      written-put q = ended-put form h (block c d true ∷ []) (lit≤ tt) p q
+        pub joined-put : {o₃ : List ℕ} {n : ℕ} → Puts o₂ b (encode form (EOT ∷ [])) o₃ n → Puts o 0 (render form (header_capitals (text_of x)) (blocks_of x ++ blocks_of y)) o₃ n
+        joined-put r = ended-put form (header_capitals (text_of x)) (blocks_of x ++ blocks_of y) both_some both-put r
 
-pub ruleset written = (single-heading, single-piece, single-put, written-front, written_behind, written-put, rules)
+pub ruleset pairs = (joined-front, joined-second, joined-behind, joined-put, rules)
+
+-- of one command
+module _ (form : ℕ) (x : Single) where
+  single-some : 1 ≤ length (block_of x)
+  unfolding block_of
+  single-some = lit≤ tt
+
+  single-as : headed form (header_capitals x.header.now) (block_of x) ≡ heading form (header_capitals x.header.now) ++ piece form true x.command x.text.now
+  unfolding headed pieces block_of
+  single-as = rw (append-nil (piece form true x.command x.text.now))
+
+  module _ {o : List ℕ} where
+    single-front : Takes o 0 (render form (header_capitals x.header.now) (block_of x))
+        → Takes o 0 (encode form (heading form (header_capitals x.header.now) ++ piece form true x.command x.text.now))
+    single-front t = rw single-as at (ended-front form (header_capitals x.header.now) (block_of x) single-some t)
+
+    pub written-front : Takes o 0 (render form (header_capitals x.header.now) (block_of x)) → Takes o 0 (encode form (heading form (header_capitals x.header.now)))
+    written-front t = takes_front form (heading form (header_capitals x.header.now)) (piece form true x.command x.text.now) (single-front t)
+
+    module _ {o₁ : List ℕ} {a : ℕ} (p : Puts o 0 (encode form (heading form (header_capitals x.header.now))) o₁ a) where
+      pub written-piece : Takes o 0 (render form (header_capitals x.header.now) (block_of x)) → Takes o₁ a (encode form (piece form true x.command x.text.now))
+      written-piece t = takes-behind form (heading form (header_capitals x.header.now)) (piece form true x.command x.text.now) (single-front t) p
+
+      module _ {o₂ : List ℕ} {b : ℕ} (q : Puts o₁ a (encode form (piece form true x.command x.text.now)) o₂ b) where
+        single-put : Puts o 0 (encode form (headed form (header_capitals x.header.now) (block_of x))) o₂ b
+        single-put = rw single-as (joined form (heading form (header_capitals x.header.now)) (piece form true x.command x.text.now) p q)
+
+        pub written_behind : Takes o 0 (render form (header_capitals x.header.now) (block_of x)) → Takes o₂ b (encode form (EOT ∷ []))
+        written_behind t = ended-behind form (header_capitals x.header.now) (block_of x) single-some single-put t
+
+        pub written-put : {o₃ : List ℕ} {n : ℕ} → Puts o₂ b (encode form (EOT ∷ [])) o₃ n → Puts o 0 (render form (header_capitals x.header.now) (block_of x)) o₃ n
+        written-put r = ended-put form (header_capitals x.header.now) (block_of x) single-some single-put r
+
+pub ruleset written = (written-front, written-piece, written_behind, written-put, rules)
 
 -- ---- its number and its length
+
+none_left : (l : List ℕ) → 0 ≡ length l → l ≡ []
+none_left [] e = refl
+none_left (x ∷ l) e = absurd (omega arith)
 
 module _ (form : ℕ) (h : List ℕ) (bs : List Block) where
   -- what is reckoned is what the definitions say
@@ -215,30 +212,39 @@ module _ (form : ℕ) (h : List ℕ) (bs : List Block) where
       (a, ltb-false room (length (render form h bs)) b)))
 
   -- with room for it the form starts the buffer; else the buffer is as it was
-  module _ (o : List ℕ) (r : Written) (e : r ≡ answered form h bs (length o)) where
-    number : r.number ≡ put_number form h bs (length o)
+  module _ (o : List ℕ) (q : Result ℕ Refusal) (e : told q ≡ answered form h bs (length o)) where
+    number : (told q).number ≡ put_number form h bs (length o)
     unfolding answered
-    number = ap (λ x. x.number) e ∙ by-test (put_number form h bs (length o) is 0)
+    number = ap (λ (x : Written). x.number) e ∙ by-test (put_number form h bs (length o) is 0)
         (λ a. rw a (sym (eqb-true (put_number form h bs (length o)) 0 a))) (λ a. rw a)
 
-    pub put_refused : (r.number ≡ 0 → ⊥) → output r o ≡ put form h bs o
-    unfolding answered put
-    put_refused n = let z = ne_eqb (put_number form h bs (length o)) 0 (λ d. n (number ∙ d)) in rw (e, z)
+    pub put_refused : {d : Refusal} → q ≡ Err d → output (written_as (number_of d) 0) o ≡ put form h bs o
+    unfolding answered put overlay
+    put_refused {d} f =
+        let z : written_as (number_of d) 0 ≡ answered form h bs (length o) = rw f at e in
+        rw z (by-test (put_number form h bs (length o) is 0)
+        (λ a.
+        let k : 0 ≡ length (render form h bs) = rw a at (ap (λ (x : Written). x.length) z) in
+        rw (a, none_left (render form h bs) k))
+        (λ a. rw a))
 
-    module _ (t : r.number ≡ 0) where
+    module _ {k : ℕ} (t : q ≡ Ok k) where
+      none-told : put_number form h bs (length o) ≡ 0
+      none-told = rw t at (sym number)
+
       fits : length (render form h bs) ≤ length o
-      fits = (put-fits (length o) (sym number ∙ t)).1
+      fits = (put-fits (length o) none-told).1
 
       pub put-room : Takes o 0 (render form h bs)
       put-room = record { room = omega (arith, fits) }
 
-      pub put-done : (o₁ : List ℕ) (k : ℕ) → Puts o 0 (render form h bs) o₁ k → output (written_as 0 k) o₁ ≡ put form h bs o
+      pub put-done : (o₁ : List ℕ) (n : ℕ) → Puts o 0 (render form h bs) o₁ n → output (written_as 0 n) o₁ ≡ put form h bs o
       unfolding put overlay
-      put-done o₁ k p =
+      put-done o₁ n p =
           let x : List ℕ = render form h bs in
-          let n : k ≡ length x = omega (arith, p.moved) in
+          let m : n ≡ length x = omega (arith, p.moved) in
           let z : 0 + length x ≤ length o = omega (arith, fits) in
           let w : o₁ ≡ x ++ drop (length x) o = p.stored ∙ sets-eq x o 0 z ∙ ap (λ (j : ℕ). x ++ drop j o) (zero-add (length x)) in
-          rw (sym number ∙ t) (ap₂ (λ (j : ℕ) (l : List ℕ). output (written_as 0 j) l) n w)
+          rw none-told (ap₂ (λ (j : ℕ) (l : List ℕ). output (written_as 0 j) l) m w)
 
 pub ruleset delivering = (put_refused, put-room, put-done, rules)

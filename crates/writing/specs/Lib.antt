@@ -4,3 +4,5 @@ pub mod Writing
 pub mod Reforming
 pub mod Joining
 pub mod InnerSources
+pub mod InnerRefusals
+pub mod InnerFrames

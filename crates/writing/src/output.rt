@@ -1,56 +1,38 @@
 // What a call that writes a form answers: "18, 14".
 ghost use Rattle.std.specs.Prelude.{◌≡◌};
-ghost use Rattle.writing.specs.Output.{is_form, written_as};
+ghost use Rattle.forms.specs.InnerNumbers.{form_number};
 ghost use Rattle.writing.specs.InnerSources.{Reckoned, fitted};
+ghost use Rattle.writing.specs.InnerRefusals.{told};
 
-use crate::Written;
-use crate::numbers::{NO_ROOM, TOO_LONG};
+use crate::Refusal;
+use forms::Form;
 use forms::lengths::{form_length, render_length};
 use octets::bytes::{BLOCKS, TRANSLATED};
 
-// "form not 1, 2 or 3"
-pub fn is_form(form: u8) -> bool
-    ensures { result ≡ is_form form }
-{
-    if form < 1 {
-        return false;
-    }
-    form <= 3
-}
-
-// "length 0"
-pub fn unwritten(number: u8) -> Written
-    ensures { result ≡ written_as number 0 }
-{
-    Written { number, length: 0 }
-}
-
-// 18, 14, or 0 and the result's length: reckoned from the length of the header, the number of blocks, the bytes of their data, the escapes
-// among them and the buffer's length.
+// 18, 14, or the result's length: reckoned from the length of the header, the number of blocks, the bytes of their data, the escapes among
+// them and the buffer's length.
+// Stays: four amounts, which nothing but this takes together; their struct would be made at three calls to be taken apart here.
 pub fn fit(
-    form: u8,
+    form: Form,
     header: usize,
     count: usize,
     bytes: usize,
     escapes: usize,
     room: usize,
-) -> Written
+) -> Result<usize, Refusal>
     requires { Reckoned header count bytes escapes }
-    ensures { result ≡ fitted form header count bytes escapes room }
+    ensures { told result ≡ fitted (form_number form) header count bytes escapes room }
 {
     if BLOCKS < count {
-        return unwritten(TOO_LONG);
+        return Err(Refusal::TooLong);
     }
     let long = form_length(form, header, count, bytes);
     if TRANSLATED < long {
-        return unwritten(TOO_LONG);
+        return Err(Refusal::TooLong);
     }
     let raw = render_length(form, long, count, escapes);
     if room < raw {
-        return unwritten(NO_ROOM);
+        return Err(Refusal::NoRoom);
     }
-    Written {
-        number: 0,
-        length: raw,
-    }
+    Ok(raw)
 }

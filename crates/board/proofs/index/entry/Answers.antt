@@ -1,20 +1,11 @@
 use Rattle.board.proofs.IndexLaws.{entering}
 use Rattle.board.proofs.index.entry.Goals as goal
 
-pub returns-then-label-lt-FIRST_LABEL : goal.returns-then-label-lt-FIRST_LABEL
-returns-then-label-lt-FIRST_LABEL c = search entering
+pub returns-in-32-to-126 : goal.returns-in-32-to-126
+returns-in-32-to-126 c = search entering
 
-pub returns-then-label-gt-LAST_LABEL : goal.returns-then-label-gt-LAST_LABEL
-returns-then-label-gt-LAST_LABEL c = search entering
+pub returns-in_default : goal.returns-in_default
+returns-in_default c = search entering
 
-pub slot-requires : goal.slot-requires
-slot-requires c = search entering
-
-pub offset_bounds-places-slot : goal.offset_bounds-places-slot
-offset_bounds-places-slot c = search entering
-
-pub bounds-places-slot : goal.bounds-places-slot
-bounds-places-slot c = search entering
-
-pub returns : goal.returns
-returns c = search entering
+pub returns-in_default-2 : goal.returns-in_default-2
+returns-in_default-2 c = search entering

@@ -1,20 +1,11 @@
 use Rattle.board.proofs.SoundnessLaws.{filling}
 use Rattle.board.proofs.soundness.is_content.Goals as goal
 
-pub plain_run-end-requires : goal.plain_run-end-requires
-plain_run-end-requires c = search filling
-
 pub slice_bounds-all_nul-count : goal.slice_bounds-all_nul-count
 slice_bounds-all_nul-count c = search filling
 
 pub slice_bounds-all_nul-start : goal.slice_bounds-all_nul-start
 slice_bounds-all_nul-start c = search filling
-
-pub slice_bounds-all_nul-end : goal.slice_bounds-all_nul-end
-slice_bounds-all_nul-end c = search filling
-
-pub all_nul-requires : goal.all_nul-requires
-all_nul-requires c = search filling
 
 pub returns : goal.returns
 returns c = search filling

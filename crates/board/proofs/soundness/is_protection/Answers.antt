@@ -1,5 +1,5 @@
-use Rattle.board.specs.Soundness.{is_protection}
 use Rattle.octets.proofs.Junctions.{junctions}
+use Rattle.board.specs.Soundness.{is_protection}
 use Rattle.board.proofs.soundness.is_protection.Goals as goal
 
 pub returns-then-p-eq-UNLOCKED : goal.returns-then-p-eq-UNLOCKED

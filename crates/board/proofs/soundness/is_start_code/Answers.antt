@@ -1,20 +1,6 @@
-use Rattle.board.proofs.Checks.{coding}
+use Rattle.octets.proofs.Junctions.{junctions}
+use Rattle.board.proofs.Checks.{start-told}
 use Rattle.board.proofs.soundness.is_start_code.Goals as goal
 
-pub two_at-requires : goal.two_at-requires
-two_at-requires c = search coding
-
-pub enum_told-1 : goal.enum_told-1
-enum_told-1 c = search coding
-
-pub enum_known-v : goal.enum_known-v
-enum_known-v c = search coding
-
-pub returns-in-Bad : goal.returns-in-Bad
-returns-in-Bad c = search coding
-
-pub returns-then-v-le-LAST_CODE : goal.returns-then-v-le-LAST_CODE
-returns-then-v-le-LAST_CODE c = search coding
-
-pub returns-else-v-le-LAST_CODE : goal.returns-else-v-le-LAST_CODE
-returns-else-v-le-LAST_CODE c = search coding
+pub returns : goal.returns
+returns c = start-told _ _ _ _ c.two_at.ensures c.is_some_and.ensures (λ v p. search junctions)

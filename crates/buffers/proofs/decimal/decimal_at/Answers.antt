@@ -1,20 +1,11 @@
 use Rattle.buffers.proofs.DecimalLaws.{decimals}
 use Rattle.buffers.proofs.decimal.decimal_at.Goals as goal
 
-pub bounds-s-at : goal.bounds-s-at
-bounds-s-at c = search decimals
-
 pub overflow_sub-result : goal.overflow_sub-result
 overflow_sub-result c = search decimals
 
 pub overflow_mul-result : goal.overflow_mul-result
 overflow_mul-result c = search decimals
-
-pub overflow_add-result : goal.overflow_add-result
-overflow_add-result c = search decimals
-
-pub bounds-s-at-2 : goal.bounds-s-at-2
-bounds-s-at-2 c = search decimals
 
 pub overflow_sub-result-2 : goal.overflow_sub-result-2
 overflow_sub-result-2 c = search decimals

@@ -1,23 +1,22 @@
-use Rattle.configuration.proofs.ConfigurationLaws.{replacing}
+use mathlib.Core.Path.{refl}
+use lib.ListN.{length}
+use Rattle.board.specs.Board.{board}
+use Rattle.board.proofs.Inside.{sound-most}
+use Rattle.configuration.proofs.ConfigurationLaws.{replace-listed, replace-done, replacing}
 use Rattle.configuration.proofs.configuration.replace.Goals as goal
 
-pub refusal-number-requires : goal.refusal-number-requires
-refusal-number-requires c = search replacing
-
-pub returns-then-number-ne0 : goal.returns-then-number-ne0
-returns-then-number-ne0 c = search replacing
-
 pub lay-kept-requires : goal.lay-kept-requires
-lay-kept-requires c = search replacing
+lay-kept-requires c =
+    replace-listed c.args.list.now (length c.args.m.now) c.in-Ok.ensures.number c.in-Ok.records.now c.in-Ok.ensures.records c.args.m.now refl
+    (sound-most (board c.args.s c.args.m.now) c.requires)
 
-pub overflow_cast-n : goal.overflow_cast-n
-overflow_cast-n c = search replacing
+pub overflow_cast-records : goal.overflow_cast-records
+overflow_cast-records c = search replacing
 
-pub with_files-requires : goal.with_files-requires
-with_files-requires c = search replacing
-
-pub shape_of-m : goal.shape_of-m
-shape_of-m c = search replacing
+pub returns-in-Err : goal.returns-in-Err
+returns-in-Err c = search replacing
 
 pub returns : goal.returns
-returns c = search replacing
+returns c =
+    replace-done c.args.list.now (length c.args.m.now) c.in-Ok.ensures.number c.in-Ok.records.now c.in-Ok.ensures.records
+    c.args.m.now c.lay-kept.new.m c.lay-kept.result c.lay-kept.ensures (board c.args.s c.args.m.now) refl refl c.with_files.result c.with_files.ensures

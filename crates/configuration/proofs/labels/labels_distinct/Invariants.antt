@@ -1,8 +1,9 @@
+use lib.ListN.{length}
 use Rattle.configuration.proofs.LabelsLaws.{Parting}
 use Rattle.configuration.proofs.labels.labels_distinct.Given as goal
 
-abbrev pub invariant-loop-left : goal.invariant-loop-left
-invariant-loop-left l = Parting l.d l.n l.at l.left
+abbrev pub invariant-loop-head : goal.invariant-loop-head
+invariant-loop-head l = Parting l.records l.left
 
-abbrev pub decreases-loop-left : goal.decreases-loop-left
-decreases-loop-left l = l.left
+abbrev pub decreases-loop-head : goal.decreases-loop-head
+decreases-loop-head l = length l.left

@@ -1,12 +1,6 @@
 use Rattle.configuration.proofs.Listing.{sizes}
 use Rattle.configuration.proofs.records.needed_by.Goals as goal
 
-pub size_at-size-requires : goal.size_at-size-requires
-size_at-size-requires c = search sizes
-
-pub overflow_add-result : goal.overflow_add-result
-overflow_add-result c = search sizes
-
 pub overflow_add-result-else-size-eq0 : goal.overflow_add-result-else-size-eq0
 overflow_add-result-else-size-eq0 c = search sizes
 

@@ -7,8 +7,5 @@ put_one-next-requires c = search parts
 pub put_one-requires : goal.put_one-requires
 put_one-requires c = search parts
 
-pub shape_of-out : goal.shape_of-out
-shape_of-out c = search parts
-
 pub returns : goal.returns
 returns c = search parts

@@ -4,23 +4,11 @@ use Rattle.forms.proofs.forms.put_header.Goals as goal
 pub loop-i-init : goal.loop-i-init
 loop-i-init c = search capitals
 
-pub capital_at-requires : goal.capital_at-requires
-capital_at-requires c = search capitals
-
 pub put_one-next-requires : goal.put_one-next-requires
 put_one-next-requires c = search capitals
 
-pub overflow_add-i : goal.overflow_add-i
-overflow_add-i c = search capitals
-
-pub loop-i-smaller : goal.loop-i-smaller
-loop-i-smaller c = search capitals
-
 pub loop-i-preserved : goal.loop-i-preserved
 loop-i-preserved c = search capitals
-
-pub shape_of-out : goal.shape_of-out
-shape_of-out c = search capitals
 
 pub returns : goal.returns
 returns c = search capitals

@@ -1,11 +1,7 @@
-use Prim.Native.Nat.{◌-◌}
-use lib.ListN.{length}
 use Rattle.header.specs.Capitals.{header_capitals}
+use Rattle.forms.specs.InnerNumbers.{form_number}
 use Rattle.forms.proofs.FormsLaws.{Copying}
 use Rattle.forms.proofs.forms.put_header.Given as goal
 
 abbrev pub invariant-loop-i : goal.invariant-loop-i
-invariant-loop-i l = Copying l.initial.out l.at l.form (header_capitals l.h) l.out l.next l.i
-
-abbrev pub decreases-loop-i : goal.decreases-loop-i
-decreases-loop-i l = length l.h - l.i
+invariant-loop-i l = Copying l.initial.out l.at (form_number l.form) (header_capitals l.h) l.out l.next l.i

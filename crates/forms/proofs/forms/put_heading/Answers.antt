@@ -10,8 +10,5 @@ put_one-b-requires c = search headings
 pub put_header-requires : goal.put_header-requires
 put_header-requires c = search headings
 
-pub shape_of-out : goal.shape_of-out
-shape_of-out c = search headings
-
 pub returns : goal.returns
 returns c = search headings

@@ -7,8 +7,5 @@ put_command-next-requires c = search parts
 pub put_all-requires : goal.put_all-requires
 put_all-requires c = search parts
 
-pub shape_of-out : goal.shape_of-out
-shape_of-out c = search parts
-
 pub returns : goal.returns
 returns c = search parts

@@ -10,8 +10,5 @@ put_opened-b-requires c = search piecing
 pub put_ending-requires : goal.put_ending-requires
 put_ending-requires c = search piecing
 
-pub shape_of-out : goal.shape_of-out
-shape_of-out c = search piecing
-
 pub returns : goal.returns
 returns c = search piecing

@@ -1,23 +1,9 @@
-use Rattle.octets.proofs.Counts.{counting}
+use mathlib.Core.Path.{◌≡◌, ◌∙◌}
+use borrow.Author.Rules.{rules}
+use Rattle.std.specs.List.{count_by}
+use Rattle.forms.specs.InnerLengths.{is_escaped}
+use Rattle.forms.proofs.LengthsLaws.{escapes-by}
 use Rattle.forms.proofs.lengths.count_escapes.Goals as goal
 
-pub loop-i-init : goal.loop-i-init
-loop-i-init c = search counting
-
-pub escaped_at-n-requires : goal.escaped_at-n-requires
-escaped_at-n-requires c = search counting
-
-pub overflow_add-n : goal.overflow_add-n
-overflow_add-n c = search counting
-
-pub overflow_add-i : goal.overflow_add-i
-overflow_add-i c = search counting
-
-pub loop-i-smaller : goal.loop-i-smaller
-loop-i-smaller c = search counting
-
-pub loop-i-preserved : goal.loop-i-preserved
-loop-i-preserved c = search counting
-
 pub returns : goal.returns
-returns c = search counting
+returns c = let counted : c.sum.result ≡ count_by is_escaped c.args.s.now = search rules in counted ∙ escapes-by c.args.s.now

@@ -1,47 +1,11 @@
 use Rattle.forms.proofs.LengthsLaws.{reckoned}
 use Rattle.forms.proofs.lengths.form_length.Goals as goal
 
-pub overflow_add-result : goal.overflow_add-result
-overflow_add-result c = search reckoned
+pub returns-in-Plain : goal.returns-in-Plain
+returns-in-Plain c = search reckoned
 
-pub overflow_mul-result : goal.overflow_mul-result
-overflow_mul-result c = search reckoned
+pub returns-in-Summed : goal.returns-in-Summed
+returns-in-Summed c = search reckoned
 
-pub overflow_add-result-then-form-eq-PLAIN_FORM : goal.overflow_add-result-then-form-eq-PLAIN_FORM
-overflow_add-result-then-form-eq-PLAIN_FORM c = search reckoned
-
-pub overflow_add-result-then-form-eq-PLAIN_FORM-2 : goal.overflow_add-result-then-form-eq-PLAIN_FORM-2
-overflow_add-result-then-form-eq-PLAIN_FORM-2 c = search reckoned
-
-pub returns-then-form-eq-PLAIN_FORM : goal.returns-then-form-eq-PLAIN_FORM
-returns-then-form-eq-PLAIN_FORM c = search reckoned
-
-pub overflow_add-result-then-form-eq-PRINTABLE_FORM : goal.overflow_add-result-then-form-eq-PRINTABLE_FORM
-overflow_add-result-then-form-eq-PRINTABLE_FORM c = search reckoned
-
-pub overflow_mul-result-then-form-eq-PRINTABLE_FORM : goal.overflow_mul-result-then-form-eq-PRINTABLE_FORM
-overflow_mul-result-then-form-eq-PRINTABLE_FORM c = search reckoned
-
-pub overflow_add-result-then-form-eq-PRINTABLE_FORM-2 : goal.overflow_add-result-then-form-eq-PRINTABLE_FORM-2
-overflow_add-result-then-form-eq-PRINTABLE_FORM-2 c = search reckoned
-
-pub overflow_add-result-then-form-eq-PRINTABLE_FORM-3 : goal.overflow_add-result-then-form-eq-PRINTABLE_FORM-3
-overflow_add-result-then-form-eq-PRINTABLE_FORM-3 c = search reckoned
-
-pub returns-then-form-eq-PRINTABLE_FORM : goal.returns-then-form-eq-PRINTABLE_FORM
-returns-then-form-eq-PRINTABLE_FORM c = search reckoned
-
-pub overflow_add-result-2 : goal.overflow_add-result-2
-overflow_add-result-2 c = search reckoned
-
-pub overflow_mul-result-2 : goal.overflow_mul-result-2
-overflow_mul-result-2 c = search reckoned
-
-pub overflow_add-result-3 : goal.overflow_add-result-3
-overflow_add-result-3 c = search reckoned
-
-pub overflow_add-result-4 : goal.overflow_add-result-4
-overflow_add-result-4 c = search reckoned
-
-pub returns : goal.returns
-returns c = search reckoned
+pub returns-in-Printable : goal.returns-in-Printable
+returns-in-Printable c = search reckoned

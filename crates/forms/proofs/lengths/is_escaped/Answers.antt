@@ -1,11 +1,7 @@
-use Rattle.forms.proofs.LengthsLaws.{escaped}
+use Rattle.octets.specs.Bytes.{is_plain}
+use Rattle.forms.specs.InnerLengths.{is_escaped}
 use Rattle.forms.proofs.lengths.is_escaped.Goals as goal
 
-pub is_itself-requires : goal.is_itself-requires
-is_itself-requires c = search escaped
-
-pub returns-then-b-ge-PLAIN : goal.returns-then-b-ge-PLAIN
-returns-then-b-ge-PLAIN c = search escaped
-
-pub returns-else-b-ge-PLAIN : goal.returns-else-b-ge-PLAIN
-returns-else-b-ge-PLAIN c = search escaped
+pub returns : goal.returns
+unfolding is_escaped is_plain
+returns c = rw c.is_itself.ensures

@@ -1,26 +1,12 @@
-use Rattle.header.proofs.Walks.{seeking}
+use Rattle.std.proofs.Common.{ℕ, ◌*◌, Bool, drop, refl, ◌∙◌, rules}
+use Rattle.std.proofs.lemmas.Iterator.{YieldsList-from_range}
+use Rattle.std.proofs.lemmas.Iterator.Search.{any_from_yields_List}
+use Rattle.header.specs.Addressing.{pair_fits}
+use Rattle.header.proofs.Walks.{any_of}
 use Rattle.header.proofs.addressing.addressed.Goals as goal
 
-pub loop-left-init : goal.loop-left-init
-loop-left-init c = search seeking
-
-pub pair_fits-requires : goal.pair_fits-requires
-pair_fits-requires c = search seeking
-
-pub returns-then-pair_fits : goal.returns-then-pair_fits
-returns-then-pair_fits c = search seeking
-
-pub overflow_add-at : goal.overflow_add-at
-overflow_add-at c = search seeking
-
-pub overflow_sub-left : goal.overflow_sub-left
-overflow_sub-left c = search seeking
-
-pub loop-left-smaller : goal.loop-left-smaller
-loop-left-smaller c = search seeking
-
-pub loop-left-preserved : goal.loop-left-preserved
-loop-left-preserved c = search seeking
-
 pub returns : goal.returns
-returns c = search seeking
+returns c =
+    let p : ℕ → Bool = λ i. pair_fits c.args.own c.args.address (drop (4 * i) c.args.h.now) in
+    any_from_yields_List p _ _ _ c.any.ensures.ran (YieldsList-from_range 0 16 16 (search rules) refl) (λ x b q k. search rules)
+    ∙ any_of c.args.own c.args.address c.args.h.now

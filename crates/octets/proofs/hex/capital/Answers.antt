@@ -1,9 +1,6 @@
 use Rattle.octets.proofs.Capitals.{carried}
 use Rattle.octets.proofs.hex.capital.Goals as goal
 
-pub overflow_sub-result : goal.overflow_sub-result
-overflow_sub-result c = search carried
-
 pub returns-in-97-to-102 : goal.returns-in-97-to-102
 returns-in-97-to-102 c = search carried
 

@@ -1,29 +1,5 @@
 use Rattle.octets.proofs.Capitals.{carried}
 use Rattle.octets.proofs.hex.carried_two_at.Goals as goal
 
-pub overflow_sub-s : goal.overflow_sub-s
-overflow_sub-s c = search carried
-
-pub returns-then-s-at-lt2 : goal.returns-then-s-at-lt2
-returns-then-s-at-lt2 c = search carried
-
-pub bounds-s-at : goal.bounds-s-at
-bounds-s-at c = search carried
-
-pub carried_value-requires : goal.carried_value-requires
-carried_value-requires c = search carried
-
-pub overflow_add-at : goal.overflow_add-at
-overflow_add-at c = search carried
-
-pub bounds-s-at-2 : goal.bounds-s-at-2
-bounds-s-at-2 c = search carried
-
-pub carried_value-requires-2 : goal.carried_value-requires-2
-carried_value-requires-2 c = search carried
-
-pub of_two-requires : goal.of_two-requires
-of_two-requires c = search carried
-
 pub returns : goal.returns
 returns c = search carried

@@ -1,9 +1,6 @@
 use Rattle.octets.proofs.Digits.{digits}
 use Rattle.octets.proofs.hex.hex_value.Goals as goal
 
-pub overflow_add-result : goal.overflow_add-result
-overflow_add-result c = search digits
-
 pub returns-in-48-to-57 : goal.returns-in-48-to-57
 returns-in-48-to-57 c = search digits
 

@@ -1,23 +1,11 @@
-use Rattle.pixels.proofs.PixelsLaws.{laws}
+use Rattle.std.proofs.Common.{◌≡◌, ◌∙◌, true, ◌&&◌, arith}
+use Rattle.std.proofs.lemmas.Grind.{common_steps}
+use Rattle.std.specs.List.{fold}
+use Rattle.pixels.specs.InnerHalves.{are_shades}
+use Rattle.pixels.proofs.PixelsLaws.{fold_all}
 use Rattle.pixels.proofs.pixels.all_shades.Goals as goal
 
-pub loop-i-init : goal.loop-i-init
-loop-i-init c = search laws
-
-pub bounds-s-i : goal.bounds-s-i
-bounds-s-i c = search laws
-
-pub bounds-s-i-in-loop-i : goal.bounds-s-i-in-loop-i
-bounds-s-i-in-loop-i c = search laws
-
-pub overflow_add-i : goal.overflow_add-i
-overflow_add-i c = search laws
-
-pub loop-i-smaller : goal.loop-i-smaller
-loop-i-smaller c = search laws
-
-pub loop-i-preserved : goal.loop-i-preserved
-loop-i-preserved c = search laws
-
 pub returns : goal.returns
-returns c = search laws
+returns c =
+    let e : c.fold.result ≡ fold (λ a x. a && are_shades x) true c.args.s.now = grind (arith, common_steps) in
+    e ∙ fold_all are_shades c.args.s.now true

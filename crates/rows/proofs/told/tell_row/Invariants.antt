@@ -1,8 +1,5 @@
 use Rattle.rows.proofs.ToldLaws.{Row}
 use Rattle.rows.proofs.told.tell_row.Given as goal
 
-abbrev pub invariant-loop-left : goal.invariant-loop-left
-invariant-loop-left l = Row l.initial.out l.at l.picture l.k l.n l.out l.i l.j l.left
-
-abbrev pub decreases-loop-left : goal.decreases-loop-left
-decreases-loop-left l = l.left
+abbrev pub invariant-loop-i : goal.invariant-loop-i
+invariant-loop-i l = Row l.initial.row l.picture l.k l.row l.i

@@ -1,32 +1,17 @@
-use Rattle.sign.proofs.Answering.{framing}
+use mathlib.Core.Path.{refl}
+use Rattle.board.specs.Board.{board}
+use Rattle.sign.proofs.Answering.{frame_refused, frame-ran, framing}
 use Rattle.sign.proofs.run.run_frame.Goals as goal
 
-pub slice_bounds-admission-count : goal.slice_bounds-admission-count
-slice_bounds-admission-count c = search framing
+pub returns-in-Err : goal.returns-in-Err
+returns-in-Err c =
+    frame_refused (board c.args.s c.args.m.now) c.args.out.now c.args.t.now c.args.header c.args.from
+    c.in-Err.refusal c.in-Err.ensures c.number.result c.number.ensures c.untouched.result c.untouched.ensures c.args.m.now refl
 
-pub slice_bounds-admission-start : goal.slice_bounds-admission-start
-slice_bounds-admission-start c = search framing
-
-pub slice_bounds-admission-end : goal.slice_bounds-admission-end
-slice_bounds-admission-end c = search framing
-
-pub admission-number-requires : goal.admission-number-requires
-admission-number-requires c = search framing
-
-pub untouched-requires : goal.untouched-requires
-untouched-requires c = search framing
-
-pub returns-then-number-ne0 : goal.returns-then-number-ne0
-returns-then-number-ne0 c = search framing
-
-pub run_begun-requires : goal.run_begun-requires
-run_begun-requires c = search framing
-
-pub shape_of-m : goal.shape_of-m
-shape_of-m c = search framing
-
-pub shape_of-out : goal.shape_of-out
-shape_of-out c = search framing
+pub run_begun-requires-clause-in_bounds : goal.run_begun-requires-clause-in_bounds
+run_begun-requires-clause-in_bounds c = search framing
 
 pub returns : goal.returns
-returns c = search framing
+returns c =
+    frame-ran (board c.args.s c.args.m.now) c.args.out.now c.args.t.now c.args.header c.args.from
+    c.in_default.ensures c.run_begun.result c.run_begun.new.m c.run_begun.new.out c.run_begun.ensures

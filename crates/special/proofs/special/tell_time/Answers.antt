@@ -4,14 +4,8 @@ use Rattle.special.proofs.special.tell_time.Goals as goal
 pub put_decimal-requires : goal.put_decimal-requires
 put_decimal-requires c = search clock
 
-pub overflow_add-put_decimal : goal.overflow_add-put_decimal
-overflow_add-put_decimal c = search clock
-
 pub put_decimal-requires-2 : goal.put_decimal-requires-2
 put_decimal-requires-2 c = search clock
-
-pub shape_of-out : goal.shape_of-out
-shape_of-out c = search clock
 
 pub returns : goal.returns
 returns c = search clock

@@ -1,12 +1,6 @@
 use Rattle.writing.proofs.Reckonings.{pairing}
 use Rattle.writing.proofs.joining.fit_both.Goals as goal
 
-pub escapes_from-requires : goal.escapes_from-requires
-escapes_from-requires c = search pairing
-
-pub escapes_from-requires-2 : goal.escapes_from-requires-2
-escapes_from-requires-2 c = search pairing
-
 pub overflow_add-escapes : goal.overflow_add-escapes
 overflow_add-escapes c = search pairing
 
@@ -15,9 +9,6 @@ overflow_add-count c = search pairing
 
 pub overflow_add-bytes : goal.overflow_add-bytes
 overflow_add-bytes c = search pairing
-
-pub overflow_sub-from : goal.overflow_sub-from
-overflow_sub-from c = search pairing
 
 pub fit-requires : goal.fit-requires
 fit-requires c = search pairing

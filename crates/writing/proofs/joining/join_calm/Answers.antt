@@ -1,17 +1,11 @@
-use Rattle.writing.proofs.Reckonings.{delivered-both}
+use Rattle.writing.proofs.Results.{delivering}
 use Rattle.writing.proofs.joining.join_calm.Goals as goal
 
-pub fit_both-fitted-requires : goal.fit_both-fitted-requires
-fit_both-fitted-requires c = search delivered-both
+pub returns-in_err-fit_both : goal.returns-in_err-fit_both
+returns-in_err-fit_both c = search delivering
 
-pub returns-then-fitted-ne0 : goal.returns-then-fitted-ne0
-returns-then-fitted-ne0 c = search delivered-both
-
-pub put_joined-length-requires : goal.put_joined-length-requires
-put_joined-length-requires c = search delivered-both
-
-pub shape_of-out : goal.shape_of-out
-shape_of-out c = search delivered-both
+pub put_joined-requires : goal.put_joined-requires
+put_joined-requires c = search (delivering, c.in_ok-fit_both.was)
 
 pub returns : goal.returns
-returns c = search delivered-both
+returns c = search (delivering, c.in_ok-fit_both.was)

@@ -7,8 +7,5 @@ put_headed-next-requires c = search wholes
 pub put_eot-requires : goal.put_eot-requires
 put_eot-requires c = search wholes
 
-pub shape_of-out : goal.shape_of-out
-shape_of-out c = search wholes
-
 pub returns : goal.returns
 returns c = search wholes

@@ -1,17 +1,11 @@
 use Rattle.writing.proofs.Results.{delivering}
 use Rattle.writing.proofs.writing.write_plain.Goals as goal
 
-pub fit_written-fitted-requires : goal.fit_written-fitted-requires
-fit_written-fitted-requires c = search delivering
+pub returns-in_err-fit_written : goal.returns-in_err-fit_written
+returns-in_err-fit_written c = search delivering
 
-pub returns-then-fitted-ne0 : goal.returns-then-fitted-ne0
-returns-then-fitted-ne0 c = search delivering
-
-pub put_written-length-requires : goal.put_written-length-requires
-put_written-length-requires c = search delivering
-
-pub shape_of-out : goal.shape_of-out
-shape_of-out c = search delivering
+pub put_written-requires : goal.put_written-requires
+put_written-requires c = search (delivering, c.in_ok-fit_written.was)
 
 pub returns : goal.returns
-returns c = search delivering
+returns c = search (delivering, c.in_ok-fit_written.was)
