@@ -24,56 +24,67 @@ use Rattle.effects.specs.declared.Refusal.TheVariants.{WrongChecksum, Unknown}
 use Rattle.effects.proofs.Outcomes.{left-quiet}
 use Rattle.special.specs.Special.{write_special, read_special}
 use Rattle.commands.specs.Blocks.{command, do_block}
-use Rattle.commands.specs.InnerDoing.{OfBoard, writing, reading, filing, Puts, Files}
+use Rattle.commands.specs.InnerDoing.{is_special, OfBoard, writing, reading, commanding, filing, Puts, Files}
 
 -- ---- any other block; m' and out' are what is left
 
 module _ (p m : List ℕ) (code : ℕ) (text out : List ℕ) where
   -- by an effect on each board
-  as-answered : (e : Board → Effect) → ((b : Board) → e b ≡ filing code text b) → (r : Result ℕ Refusal) (m' out' : List ℕ) →
-      Files p m out e r m' out' → Files p m out (filing code text) r m' out'
+  as-answered : (e : Board → Effect) → ((b : Board) → e b ≡ commanding code text b) → (r : Result ℕ Refusal) (m' out' : List ℕ) →
+      Files p m out e r m' out' → Files p m out (commanding code text) r m' out'
   as-answered e q r m' out' x = record { on = λ b i. x.on b i ∙ ap (leaving out) (q b) }
 
   -- a write replies nothing
-  as-put : (e : Board → Effect) → ((b : Board) → e b ≡ filing code text b) → (r : Result (Unit {0}) Refusal) (m' : List ℕ) →
-      Puts p m e r m' → Files p m out (filing code text) (result_and r (Ok 0)) m' out
+  as-put : (e : Board → Effect) → ((b : Board) → e b ≡ commanding code text b) → (r : Result (Unit {0}) Refusal) (m' : List ℕ) →
+      Puts p m e r m' → Files p m out (commanding code text) (result_and r (Ok 0)) m' out
   as-put e q (Ok x) m' y = record { on = λ b i. left-quiet out _ 0 (with_memory b m') (y.on b i ∙ q b) }
   as-put e q (Err x) m' y = record { on = λ b i. left-quiet out _ (number x) (with_memory b m') (y.on b i ∙ q b) }
 
-  as-refused : (x : Refusal) → ((b : Board) → refuse (number x) b ≡ filing code text b) →
-      Files p m out (filing code text) (Err x) m out
+  as-refused : (x : Refusal) → ((b : Board) → refuse (number x) b ≡ commanding code text b) →
+      Files p m out (commanding code text) (Err x) m out
   as-refused x q = record { on = λ b i. rw (← i.memory) (left-quiet out _ (number x) b (q b)) }
 
   pub write-text : code ≡ A → (r : Result (Unit {0}) Refusal) (m' : List ℕ) → Puts p m (writing TEXT text) r m' →
-      Files p m out (filing code text) (result_and r (Ok 0)) m' out
-  unfolding filing command writing
+      Files p m out (commanding code text) (result_and r (Ok 0)) m' out
+  unfolding commanding command writing
   write-text e = as-put (writing TEXT text) (λ b. rw e)
 
   pub write-string : code ≡ G → (r : Result (Unit {0}) Refusal) (m' : List ℕ) → Puts p m (writing STRING text) r m' →
-      Files p m out (filing code text) (result_and r (Ok 0)) m' out
-  unfolding filing command writing
+      Files p m out (commanding code text) (result_and r (Ok 0)) m' out
+  unfolding commanding command writing
   write-string e = as-put (writing STRING text) (λ b. rw e)
 
   pub read-text : code ≡ B → (r : Result ℕ Refusal) (out' : List ℕ) → Files p m out (reading TEXT A text) r m out' →
-      Files p m out (filing code text) r m out'
-  unfolding filing command reading
+      Files p m out (commanding code text) r m out'
+  unfolding commanding command reading
   read-text e r out' = as-answered (reading TEXT A text) (λ b. rw e) r m out'
 
   pub read-string : code ≡ H → (r : Result ℕ Refusal) (out' : List ℕ) → Files p m out (reading STRING G text) r m out' →
-      Files p m out (filing code text) r m out'
-  unfolding filing command reading
+      Files p m out (commanding code text) r m out'
+  unfolding commanding command reading
   read-string e r out' = as-answered (reading STRING G text) (λ b. rw e) r m out'
 
   pub unknown : (code ≡ A → ⊥) → (code ≡ G → ⊥) → (code ≡ B → ⊥) → (code ≡ H → ⊥) →
-      Files p m out (filing code text) (Err Unknown) m out
-  unfolding filing command
+      Files p m out (commanding code text) (Err Unknown) m out
+  unfolding commanding command
   unknown a g b h =
       as-refused Unknown
       (λ x.
       rw (ne_eqb code A a, ne_eqb code G g, ne_eqb code B b, ne_eqb code H h)
       (by-test (code is E) (λ e. simp e) (λ e. by-test (code is F) (λ f. simp (e, f)) (λ f. simp (e, f)))))
 
-pub ruleset choosing = (write-text, write-string, read-text, read-string, unknown, rules)
+-- with its sum
+module _ (p m : List ℕ) (code : ℕ) (text out : List ℕ) (right : Bool) where
+  pub file-wrong : not right ≡ true → Files p m out (filing (block code text right)) (Err WrongChecksum) m out
+  unfolding filing is_special do_block
+  file-wrong w = record { on = λ b i. rw (← i.memory) (left-quiet out _ 20 b (rw (not-true right w))) }
+
+  pub file-right : not right ≡ false → (r : Result ℕ Refusal) (m' out' : List ℕ) → Files p m out (commanding code text) r m' out' →
+      Files p m out (filing (block code text right)) r m' out'
+  unfolding filing commanding is_special do_block
+  file-right w r m' out' x = record { on = λ b i. x.on b i ∙ ap (leaving out) (rw (not-false right w)) }
+
+pub ruleset choosing = (write-text, write-string, read-text, read-string, unknown, file-wrong, file-right, rules)
 
 -- ---- a block; s' is what it leaves of the settings
 
@@ -106,13 +117,14 @@ module _ (s : Settings) (m : List ℕ) (code : ℕ) (text out : List ℕ) (right
         let v : left_as r s' m out' ≡ leaving out (read_special b text) = rw y q in
         by-command (v ∙ ap (leaving out) z)
 
-    pub filed : (code ≡ E → ⊥) → (code ≡ F → ⊥) → sound b ≡ true → (x : Result ℕ Refusal) (m' out' : List ℕ) → Files s.places m out (filing code text) x m' out' →
+    pub filed : (code ≡ E → ⊥) → (code ≡ F → ⊥) → sound b ≡ true → (x : Result ℕ Refusal) (m' out' : List ℕ) →
+        Files s.places m out (filing (block code text right)) x m' out' →
         (r : Done) → r ≡ done_by x → left_as r s m' out' ≡ leaving out (do_block b (block code text right))
-    unfolding filing
+    unfolding filing is_special
     filed e f h x m' out' q r y =
-        let z : filing code text b ≡ command b code text = rw (ne_eqb code E e, ne_eqb code F f) in
-        let v : left_as r s m' out' ≡ leaving out (filing code text b) =
+        let z : filing (block code text right) b ≡ do_block b (block code text right) = rw (not-false right w, ne_eqb code E e, ne_eqb code F f) in
+        let v : left_as r s m' out' ≡ leaving out (filing (block code text right) b) =
         rw y (q.on b (record { index = refl; memory = refl; sound = h })) in
-        by-command (v ∙ ap (leaving out) z)
+        v ∙ ap (leaving out) z
 
 pub ruleset doing = (sum-wrong, indexed, set-special, get-special, filed, rules)

@@ -1,21 +1,26 @@
 -- For contracts of inner functions only: what the commands need and leave. A, G, B and H neither take nor hand back the settings: what they
 -- answer and leave is their effect on every sound board of that index and that memory.
-use Rattle.std.specs.Prelude.{ℕ, ◌+◌, ◌≤◌, ◌≡◌, true, ◌||◌, List, [], length, Result, if◌then◌else◌}
+use Rattle.std.specs.Prelude.{ℕ, ◌+◌, ◌≤◌, ◌≡◌, Bool, true, ◌&&◌, ◌||◌, List, [], length, Result, if◌then◌else◌}
 use Rattle.std.specs.Result.{result_unwrap_or}
 use Rattle.octets.specs.Choice.{◌is◌}
 use Rattle.octets.specs.Bytes.{E, F}
+use Rattle.body.specs.Body.{Block}
 use Rattle.board.specs.Board.{Board, with_memory}
 use Rattle.board.specs.Soundness.{sound}
 use Rattle.effects.specs.Effects.{Effect, effect, refuse}
 use Rattle.effects.specs.InnerLeaving.{number_in, left, leaving}
 use Rattle.effects.specs.declared.Refusal.{Refusal}
 use Rattle.commands.specs.Commands.{find_on, put_message, write_file, get_content, read_file}
-use Rattle.commands.specs.Blocks.{command}
+use Rattle.commands.specs.Blocks.{command, do_block}
 
 -- a message fits a content, and that content memory
 pub record Room (m : List ℕ) (start size : ℕ) (message : List ℕ) : Type 0 where
   pub fits : length message ≤ size
   pub inside : start + size ≤ length m
+
+-- a block that sets or tells settings: E or F, its sum right
+unfoldable pub is_special : ℕ → Bool → Bool
+is_special c right = right && (c is E || c is F)
 
 -- a sound board of this index and this memory
 pub record Indexed (p m : List ℕ) (b : Board) : Type 0 where
@@ -42,8 +47,12 @@ unfoldable pub reading : ℕ → ℕ → List ℕ → Board → Effect
 reading kind code text b = read_file kind code b text
 
 -- any command but E and F, which are none of these: 21
-unfoldable pub filing : ℕ → List ℕ → Board → Effect
-filing code text b = if code is E || code is F then refuse 21 b else command b code text
+unfoldable pub commanding : ℕ → List ℕ → Board → Effect
+commanding code text b = if code is E || code is F then refuse 21 b else command b code text
+
+-- any block but those two with a right sum
+unfoldable pub filing : Block → Board → Effect
+filing k b = if is_special k.command k.right then refuse 21 b else do_block b k
 
 -- a write's answer, and memory after it
 pub record Puts (p m : List ℕ) (e : Board → Effect) (r : Result (Unit {0}) Refusal) (m' : List ℕ) : Type 0 where

@@ -5,7 +5,7 @@ ghost use Rattle.board.specs.Board.{board};
 ghost use Rattle.effects.specs.Reply.{reply_room};
 ghost use Rattle.effects.specs.InnerLeaving.{left_as, leaving, Ready};
 ghost use Rattle.commands.specs.Blocks.{do_block};
-ghost use Rattle.commands.specs.InnerDoing.{filing, OfBoard, Files};
+ghost use Rattle.commands.specs.InnerDoing.{commanding, filing, OfBoard, Files};
 
 use crate::commands::{read_file, write_file};
 use board::Settings;
@@ -25,7 +25,7 @@ fn file_command(
 ) -> Result<usize, Refusal>
     requires of_board { OfBoard places.now m.old }
     requires m_in_bounds { reply_room m.old ≤ length out.old }
-    ensures { Files places.now m.old out.old (filing code text.now) result m.new out.new }
+    ensures { Files places.now m.old out.old (commanding code text.now) result m.new out.new }
 {
     match code {
         A => write_file(places, m, TEXT, text).and(Ok(0)),
@@ -34,6 +34,25 @@ fn file_command(
         H => read_file(places, m, STRING, G, text, out),
         _ => Err(Refusal::Unknown),
     }
+}
+
+// Any block but E and F: command byte, data, and whether its sum is right. Of the settings it looks at the index alone.
+pub fn file_block(
+    places: &[u16; LABELS],
+    m: &mut [u8],
+    code: u8,
+    text: &[u8],
+    right: bool,
+    out: &mut [u8],
+) -> Result<usize, Refusal>
+    requires of_board { OfBoard places.now m.old }
+    requires m_in_bounds { reply_room m.old ≤ length out.old }
+    ensures { Files places.now m.old out.old (filing (block code text.now right)) result m.new out.new }
+{
+    if !right {
+        return Err(Refusal::WrongChecksum);
+    }
+    file_command(places, m, code, text, out)
 }
 
 // A block: command byte, data, and whether its sum is right. E and F take the settings, every other block their index.
@@ -62,6 +81,6 @@ pub fn do_block(
             }
         }
         F => Done::from(read_special(s, m, text, out)),
-        _ => Done::from(file_command(&s.places, m, code, text, out)),
+        _ => Done::from(file_block(&s.places, m, code, text, right, out)),
     }
 }

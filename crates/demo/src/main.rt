@@ -1,6 +1,8 @@
 // The demo of document 01: reads one frame from standard input, runs it on a fresh 512-byte board of type "C" and prints five lines.
 #![tactic(auto)]
 
+ghost use Rattle.std.specs.Prelude.{◌≤◌, length, IfOk};
+
 use sign::Answer;
 use sign::fresh::fresh;
 use sign::run::run;
@@ -8,7 +10,7 @@ use std::io;
 use std::io::Read;
 
 // one byte more than the longest frame: an over-long input stays over-long
-const ROOM: u64 = 24577;
+const ROOM: usize = 24577;
 
 // where the reply to F "#" has the unused memory, and how many digits
 const UNUSED: usize = 32;
@@ -43,8 +45,27 @@ fn show(rt: &impl Print, frame: &[u8]) -> io::Result<()> {
     print_unused(rt, &reply)
 }
 
+// How many bytes of the input stand at the start of buf: it is full, or the input has ended.
+// Stays: read_to_end takes a Vec, which can run out of memory, and this program takes none besides the stack.
+fn read_full<R: Read>(input: &mut R, buf: &mut [u8]) -> io::Result<usize>
+    ensures { IfOk result (λ n. n ≤ length buf.new) }
+{
+    let mut at = 0;
+    for _ in 0..u64::MAX {
+        if at == buf.len() {
+            break;
+        }
+        let n = input.read(&mut buf[at..])?;
+        if n == 0 {
+            break;
+        }
+        at += n;
+    }
+    Ok(at)
+}
+
 fn main(rt: HostRuntime) -> io::Result<()> {
-    let mut frame = Vec::new(rt.alloc());
-    rt.reader().take(ROOM).read_to_end(&mut frame)?;
-    show(&rt, &frame)
+    let mut frame = [0u8; ROOM];
+    let n = read_full(&mut rt.reader(), &mut frame)?;
+    show(&rt, &frame[..n])
 }

@@ -13,7 +13,7 @@ use Rattle.register.specs.Register.{bit, is_register, noted, driven_by}
 use Rattle.std.proofs.lemmas.Nat.Bits.{bit_at_or, bit_at_above, same_from_bits}
 
 -- which two of three come first does not matter: bit by bit
-or_assoc : (a b c : ℕ) → bit_or (bit_or a b) c ≡ bit_or a (bit_or b c)
+pub or_assoc : (a b c : ℕ) → bit_or (bit_or a b) c ≡ bit_or a (bit_or b c)
 or_assoc a b c =
     same_from_bits (bit_or (bit_or a b) c) (bit_or a (bit_or b c))
     (λ i. simp bit_at_or (omega arith))

@@ -5,17 +5,26 @@
 
 use board::Settings;
 use frame::Written;
+use octets::hex::hex_digit;
 use renewal::Date;
 use sign::Answer;
-use std::alloc::Global;
 use std::io::{BufReader, BufWriter, ErrorKind, Read, Write};
 use std::{fmt, io};
+
+// What the longest string takes. There are three, which main makes once: a case takes nothing from the heap, and so cannot run out of it.
+type Room = [u8; 65535];
+
+#[derive(Drop)]
+struct Rooms {
+    a: Room,
+    b: Room,
+    c: Room,
+}
 
 // What is read of the stream. Where it ends within an argument, a read fails with UnexpectedEof.
 #[derive(Drop)]
 struct Cases<R> {
     input: R,
-    heap: Global,
 }
 
 impl<R: Read> Cases<R> {
@@ -34,10 +43,11 @@ impl<R: Read> Cases<R> {
         Ok(u16::from_be_bytes(self.array()?))
     }
 
-    fn string(&mut self) -> io::Result<Vec<u8>> {
+    // A string, at the start of a room.
+    fn string<'a>(&mut self, room: &'a mut Room) -> io::Result<&'a mut [u8]> {
         let length = usize::from(self.long_number()?);
-        let mut s = vec![in self.heap; 0u8; length]?;
-        self.input.read_exact(&mut s)?;
+        let s = &mut room[..length];
+        self.input.read_exact(s)?;
         Ok(s)
     }
 
@@ -49,9 +59,9 @@ impl<R: Read> Cases<R> {
 
     // The settings string: a byte for each of the ten settings, two for the unused amount and for each label's place, one for the
     // offset and one for the register. One of another length is InvalidData.
-    fn settings(&mut self) -> io::Result<Settings> {
-        let set = self.string()?;
-        match <&[u8; SETTINGS]>::try_from(set.as_slice()) {
+    fn settings(&mut self, room: &mut Room) -> io::Result<Settings> {
+        let set: &[u8] = self.string(room)?;
+        match <&[u8; SETTINGS]>::try_from(set) {
             Ok(set) => Ok(settings(set)),
             Err(_) => Err(io::Error::from(ErrorKind::InvalidData)),
         }
@@ -83,6 +93,9 @@ fn settings(set: &[u8; SETTINGS]) -> Settings {
     }
 }
 
+// So many bytes are written at a time: formatted one by one they would take most of a run.
+const PART: usize = 64;
+
 // A string in hex digits, or "-" for an empty one.
 #[derive(Drop)]
 struct Hex<'a>(&'a [u8]);
@@ -92,9 +105,17 @@ impl fmt::Display for Hex<'_> {
         if self.0.is_empty() {
             return f.write_str("-");
         }
-        for b in self.0 {
-            let b = *b;
-            write!(f, "{b:02X}")?;
+        for part in self.0.chunks(PART) {
+            let mut digits = [[b'0'; 2]; PART];
+            for (pair, b) in digits.iter_mut().zip(part) {
+                *pair = [hex_digit(*b / 16), hex_digit(*b % 16)];
+            }
+            let n = part.len().min(PART);
+            let text = digits[..n].as_flattened();
+            match str::from_utf8(text) {
+                Ok(text) => f.write_str(text)?,
+                Err(_) => return Err(fmt::Error),
+            }
         }
         Ok(())
     }
@@ -115,10 +136,17 @@ fn print_settings<W: Write>(to: &mut W, s: &Settings) -> io::Result<()> {
         "{} {} {} {} {} {} ",
         s.format, s.speaker, s.address, s.own, s.files, s.unused
     )?;
-    for place in s.places {
-        write!(to, "{place:04X}")?;
+    let mut places = [[0; 2]; 95];
+    for (bytes, place) in places.iter_mut().zip(s.places) {
+        *bytes = place.to_be_bytes();
     }
-    write!(to, " {} {}", s.offset, s.errors)
+    write!(
+        to,
+        "{} {} {}",
+        Hex(places.as_flattened()),
+        s.offset,
+        s.errors
+    )
 }
 
 fn print_answer<W: Write>(to: &mut W, r: Answer) -> io::Result<()> {
@@ -131,50 +159,54 @@ fn print_answer<W: Write>(to: &mut W, r: Answer) -> io::Result<()> {
     print_settings(to, &r.settings)
 }
 
-fn reform<R: Read, W: Write>(cases: &mut Cases<R>, to: &mut W) -> io::Result<()> {
+fn reform<R: Read, W: Write>(
+    cases: &mut Cases<R>,
+    rooms: &mut Rooms,
+    to: &mut W,
+) -> io::Result<()> {
     let form = cases.number()?;
-    let frame = cases.string()?;
-    let mut out = cases.string()?;
-    let r = frame::reform(form, &frame, &mut out);
-    print_written(to, r, &out)
+    let frame = cases.string(&mut rooms.a)?;
+    let out = cases.string(&mut rooms.b)?;
+    let r = frame::reform(form, frame, out);
+    print_written(to, r, out)
 }
 
-fn run<R: Read, W: Write>(cases: &mut Cases<R>, to: &mut W) -> io::Result<()> {
-    let settings = cases.settings()?;
-    let mut memory = cases.string()?;
-    let mut reply = cases.string()?;
-    let frame = cases.string()?;
-    let r = sign::run::run(settings, &mut memory, &mut reply, &frame);
+fn run<R: Read, W: Write>(cases: &mut Cases<R>, rooms: &mut Rooms, to: &mut W) -> io::Result<()> {
+    let settings = cases.settings(&mut rooms.a)?;
+    let memory = cases.string(&mut rooms.a)?;
+    let reply = cases.string(&mut rooms.b)?;
+    let frame = cases.string(&mut rooms.c)?;
+    let r = sign::run::run(settings, memory, reply, frame);
     print_answer(to, r)?;
-    writeln!(to, " {} {}", Hex(&memory), Hex(&reply))
+    writeln!(to, " {} {}", Hex(memory), Hex(reply))
 }
 
-fn fresh<R: Read, W: Write>(cases: &mut Cases<R>, to: &mut W) -> io::Result<()> {
+fn fresh<R: Read, W: Write>(cases: &mut Cases<R>, rooms: &mut Rooms, to: &mut W) -> io::Result<()> {
     let own = cases.number()?;
-    let mut memory = cases.string()?;
-    let r = sign::fresh::fresh(own, &mut memory);
+    let memory = cases.string(&mut rooms.a)?;
+    let r = sign::fresh::fresh(own, memory);
     write!(to, "{} ", r.number)?;
     print_settings(to, &r.settings)?;
-    writeln!(to, " {}", Hex(&memory))
+    writeln!(to, " {}", Hex(memory))
 }
 
-fn write<R: Read, W: Write>(cases: &mut Cases<R>, to: &mut W) -> io::Result<()> {
+fn write<R: Read, W: Write>(cases: &mut Cases<R>, rooms: &mut Rooms, to: &mut W) -> io::Result<()> {
     let form = cases.number()?;
-    let header = cases.string()?;
+    let header = cases.string(&mut rooms.a)?;
     let command = cases.number()?;
-    let data = cases.string()?;
-    let mut out = cases.string()?;
-    let r = frame::write(form, &header, command, &data, &mut out);
-    print_written(to, r, &out)
+    let data = cases.string(&mut rooms.b)?;
+    let out = cases.string(&mut rooms.c)?;
+    let r = frame::write(form, header, command, data, out);
+    print_written(to, r, out)
 }
 
-fn join<R: Read, W: Write>(cases: &mut Cases<R>, to: &mut W) -> io::Result<()> {
+fn join<R: Read, W: Write>(cases: &mut Cases<R>, rooms: &mut Rooms, to: &mut W) -> io::Result<()> {
     let form = cases.number()?;
-    let first = cases.string()?;
-    let second = cases.string()?;
-    let mut out = cases.string()?;
-    let r = frame::join(form, &first, &second, &mut out);
-    print_written(to, r, &out)
+    let first = cases.string(&mut rooms.a)?;
+    let second = cases.string(&mut rooms.b)?;
+    let out = cases.string(&mut rooms.c)?;
+    let r = frame::join(form, first, second, out);
+    print_written(to, r, out)
 }
 
 fn renewal_date<R: Read, W: Write>(cases: &mut Cases<R>, to: &mut W) -> io::Result<()> {
@@ -205,8 +237,12 @@ fn add_offset<R: Read, W: Write>(cases: &mut Cases<R>, to: &mut W) -> io::Result
     writeln!(to, "{} {}", r.number, r.sum)
 }
 
-fn port_errors<R: Read, W: Write>(cases: &mut Cases<R>, to: &mut W) -> io::Result<()> {
-    let settings = cases.settings()?;
+fn port_errors<R: Read, W: Write>(
+    cases: &mut Cases<R>,
+    rooms: &mut Rooms,
+    to: &mut W,
+) -> io::Result<()> {
+    let settings = cases.settings(&mut rooms.a)?;
     let bits = cases.number()?;
     let r = sign::errors::port_errors(settings, bits);
     write!(to, "{} ", r.number)?;
@@ -215,23 +251,27 @@ fn port_errors<R: Read, W: Write>(cases: &mut Cases<R>, to: &mut W) -> io::Resul
 }
 
 // Whether there was a case. A call byte that is none is InvalidData.
-fn one_case<R: Read, W: Write>(cases: &mut Cases<R>, to: &mut W) -> io::Result<bool> {
+fn one_case<R: Read, W: Write>(
+    cases: &mut Cases<R>,
+    rooms: &mut Rooms,
+    to: &mut W,
+) -> io::Result<bool> {
     let mut call = [0u8; 1];
     if cases.input.read(&mut call)? == 0 {
         return Ok(false);
     }
     // Stays: the stream names a call by a byte, and each call reads arguments of its own.
     match call[0] {
-        b'F' => reform(cases, to)?,
-        b'R' => run(cases, to)?,
-        b'N' => fresh(cases, to)?,
-        b'W' => write(cases, to)?,
-        b'J' => join(cases, to)?,
+        b'F' => reform(cases, rooms, to)?,
+        b'R' => run(cases, rooms, to)?,
+        b'N' => fresh(cases, rooms, to)?,
+        b'W' => write(cases, rooms, to)?,
+        b'J' => join(cases, rooms, to)?,
         b'D' => renewal_date(cases, to)?,
         b'Y' => weekday(cases, to)?,
         b'B' => days_between(cases, to)?,
         b'T' => add_offset(cases, to)?,
-        b'P' => port_errors(cases, to)?,
+        b'P' => port_errors(cases, rooms, to)?,
         _ => return Err(io::Error::from(ErrorKind::InvalidData)),
     }
     Ok(true)
@@ -241,11 +281,15 @@ fn one_case<R: Read, W: Write>(cases: &mut Cases<R>, to: &mut W) -> io::Result<b
 fn main(rt: HostRuntime) -> io::Result<()> {
     let mut cases = Cases {
         input: BufReader::new(rt.alloc(), rt.reader())?,
-        heap: rt.alloc(),
     };
     let mut to = BufWriter::new(rt.alloc(), io::writer(&rt))?;
+    let mut rooms = Rooms {
+        a: [0; 65535],
+        b: [0; 65535],
+        c: [0; 65535],
+    };
     for _ in 0..u64::MAX {
-        match one_case(&mut cases, &mut to) {
+        match one_case(&mut cases, &mut rooms, &mut to) {
             Ok(true) => {}
             Ok(false) => break,
             Err(e) => {

@@ -2,11 +2,11 @@
 // beside the same twelve run one by one on another: what both boards hold is printed and compared.
 #![tactic(auto)]
 
-ghost use Rattle.std.specs.Prelude.{◌≡◌, ◌≤◌, length};
+ghost use Rattle.std.specs.Prelude.{◌≡◌, ◌≤◌, length, IfOk};
 
 use board::Settings;
-use std::alloc::Global;
 use std::io;
+use std::io::Write;
 
 // each notice's file takes an 11-byte record and 32 bytes of content
 const RECORD: usize = 11;
@@ -62,32 +62,44 @@ impl Trial {
     }
 }
 
-// Notice k, as a summed frame.
-fn notice(heap: Global, k: u8) -> io::Result<Vec<u8>>
-    requires { k ≤ 12 }
+// The first n bytes, and all of them where there are fewer.
+fn front(s: &[u8], n: usize) -> &[u8]
+    ensures { length result.now ≤ length s.now }
 {
-    let label = char::from(b'A' - 1 + k);
-    let text = format!(in heap; "{label}PERMIT {k:02} RENEW BY 31 MARCH")?;
-    let mut out = vec![in heap; 0u8; 64]?;
-    let w = frame::write(2, b"Z00", b'A', text.as_bytes(), &mut out);
-    out.truncate(w.length);
-    Ok(out)
+    &s[..n.min(s.len())]
 }
 
-// All twelve in one frame, or the number of the first joining that does not answer 0.
-fn pack(heap: Global, form: u8) -> io::Result<Result<Vec<u8>, u8>> {
-    let mut packed = notice(heap, 1)?;
+// Notice k, as a summed frame at the start of a buffer.
+fn notice<'a>(k: u8, out: &'a mut [u8; 64]) -> io::Result<&'a [u8]>
+    ensures { IfOk result (λ frame. length frame.now ≤ 64) }
+{
+    let label = char::from(b'A' - 1 + k % 16);
+    let mut text = [0u8; 28];
+    write!(&mut text[..], "{label}PERMIT {k:02} RENEW BY 31 MARCH")?;
+    let w = frame::write(2, b"Z00", b'A', &text, out);
+    Ok(front(out, w.length))
+}
+
+// All twelve in one frame at the start of a buffer: its length, or the number of the first joining that does not answer 0.
+// Stays: a buffer and a length, since a Vec can run out of memory, and this program takes none besides the stack.
+fn pack(form: u8, packed: &mut [u8; 4096]) -> io::Result<Result<usize, u8>>
+    ensures { IfOk result (λ joined. IfOk joined (λ n. n ≤ 4096)) }
+{
+    let mut one = [0u8; 64];
+    let first = notice(1, &mut one)?;
+    let mut n = first.len();
+    packed[..n].copy_from_slice(first);
     for k in 2..=NOTICES {
-        let next = notice(heap, k)?;
-        let mut out = vec![in heap; 0u8; 4096]?;
-        let w = frame::join(form, &packed, &next, &mut out);
+        let mut out = [0u8; 4096];
+        let next = notice(k, &mut one)?;
+        let w = frame::join(form, front(packed, n), next, &mut out);
         if w.number != 0 {
             return Ok(Err(w.number));
         }
-        out.truncate(w.length);
-        packed = out;
+        n = w.length;
+        *packed = out;
     }
-    Ok(Ok(packed))
+    Ok(Ok(front(packed, n).len()))
 }
 
 // `same` or another word.
@@ -117,12 +129,13 @@ fn print_files(rt: &impl Print, memory: &[u8; 1024]) -> io::Result<()> {
 }
 
 // The twelve in one frame run on one board, and one by one on another.
-fn compare(rt: &impl Print, heap: Global, frame: &[u8]) -> io::Result<()> {
+fn compare(rt: &impl Print, frame: &[u8]) -> io::Result<()> {
     let mut packed = Trial::prepared();
     packed.run(frame);
     let mut apart = Trial::prepared();
     for k in 1..=NOTICES {
-        apart.run(&notice(heap, k)?);
+        let mut one = [0u8; 64];
+        apart.run(notice(k, &mut one)?);
     }
     packed.print_counts(rt, "packed")?;
     apart.print_counts(rt, "separate")?;
@@ -133,12 +146,13 @@ fn compare(rt: &impl Print, heap: Global, frame: &[u8]) -> io::Result<()> {
 }
 
 // One form: the twelve packed and run, the twelve run one by one, and what both left.
-fn show(rt: &(impl Print + AllocGlobal), form: u8) -> io::Result<()> {
+fn show(rt: &impl Print, form: u8) -> io::Result<()> {
     println!(rt; "form {form}")?;
-    match pack(rt.alloc(), form)? {
-        Ok(frame) => {
-            println!(rt; "length {}", frame.len())?;
-            compare(rt, rt.alloc(), &frame)
+    let mut packed = [0u8; 4096];
+    match pack(form, &mut packed)? {
+        Ok(n) => {
+            println!(rt; "length {n}")?;
+            compare(rt, front(&packed, n))
         }
         Err(number) => println!(rt; "join {number}"),
     }

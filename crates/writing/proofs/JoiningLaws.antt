@@ -23,7 +23,7 @@ use Rattle.writing.specs.Reforming.{checked}
 use Rattle.writing.specs.Joining.{put_joined, join}
 use Rattle.writing.specs.InnerFrames.{text_of, blocks_of, frame_of, reading_of}
 use Rattle.writing.proofs.Reckonings.{source-read}
-use Rattle.writing.proofs.TakingLaws.{tests, made-refused, made-taken}
+use Rattle.writing.proofs.TakingLaws.{tests, made-refused, made-taken, sums-wrong, sums-right}
 
 -- ---- both frames are right
 
@@ -59,22 +59,28 @@ pub ruleset joining = (join-differ, join-starts, join-reads, join-calm, rules)
 
 -- ---- the first frame is taken: what is made of the second
 
-module _ (form : ℕ) (x : Source) (o : List ℕ) (y : Reading) where
+module _ (form : ℕ) (x : Source) (o : List ℕ) where
   abbrev second : Reading → Output
-  second r = put_joined form (frame_of x) r o
+  second r = put_joined form (frame_of x) (checked r) o
 
   second-dead : (n : ℕ) → second (refused n) ≡ unwritten n o
-  unfolding put_joined
+  unfolding put_joined checked
   second-dead n = refl
 
-  pub second-refused : {n : ℕ} → refused n ≡ y → output (written_as n 0) o ≡ put_joined form (frame_of x) y o
+  -- its sums
+  module _ (t : Source) where
+    pub second-wrong : not t.parts.seen.right ≡ true → output (written_as 17 0) o ≡ put_joined form (frame_of x) (checked (frame_of t)) o
+    unfolding put_joined
+    second-wrong f = rw (← sums-wrong t f)
+
+    pub second-right : not t.parts.seen.right ≡ false → (z : Output) → z ≡ put_joined form (frame_of x) (frame_of t) o
+        → z ≡ put_joined form (frame_of x) (checked (frame_of t)) o
+    second-right f z h = h ∙ ap (λ r. put_joined form (frame_of x) r o) (sums-right t f)
+
+  pub second-refused : {y : Reading} {n : ℕ} → refused n ≡ y → output (written_as n 0) o ≡ put_joined form (frame_of x) (checked y) o
   second-refused e = made-refused second o second-dead e
 
-  pub second-taken : {q : Result Source Refusal} {t : Source} {z : Output} → z ≡ put_joined form (frame_of x) (frame_of t) o
-      → q ≡ Ok t → reading_of q ≡ y → z ≡ put_joined form (frame_of x) y o
-  second-taken h g e = made-taken second o second-dead h g e
-
-pub ruleset seconds = (second-refused, second-taken, tests, rules)
+pub ruleset seconds = (second-wrong, second-right, second-refused, tests, rules)
 
 -- ---- what is made of the first
 

@@ -9,9 +9,8 @@ use borrow.Author.Tests.{not-true, not-false}
 use lib.ListN.{length, take}
 use Rattle.std.specs.Prelude.{Result, Ok, Err}
 use Rattle.octets.specs.Bytes.{TRANSLATED}
-use Rattle.header.specs.Capitals.{header_capitals}
 use Rattle.reading.specs.Lead.{lead_of}
-use Rattle.reading.specs.Reading.{Reading, refused, frame, read_led, read}
+use Rattle.reading.specs.Reading.{Reading, refused, read_led, read}
 use Rattle.reading.specs.Capitals.{in_capitals}
 use Rattle.reading.specs.Places.{is_printable, numbered, number_of as fault_number}
 use Rattle.reading.specs.InnerParts.{part_places, parts_view, Translates}
@@ -52,50 +51,62 @@ room-fits p g e = (translates-bytes p g e).fits
 
 -- ---- what they read as
 
-module _ (s : List ℕ) where
-  pub taken-wrong : (p : Parts) → Parted s p → not p.seen.right ≡ true → refused 17 ≡ checked (in_capitals (parts_view s (Ok p)))
-  unfolding parts_view in_capitals checked
-  taken-wrong p g f = rw (sym (seen-right g) ∙ not-true p.seen.right f)
-
-  pub taken-good : (x : Source) → x.bytes.now ≡ s → not x.parts.seen.right ≡ false
-      → frame (header_capitals (text_of x)) (blocks_of x) ≡ checked (in_capitals (parts_view s (Ok x.parts)))
-  unfolding text_of blocks_of parts_view in_capitals checked
-  taken-good x d f = rw (← d, sym (seen-right x.parted) ∙ not-false x.parts.seen.right f)
+pub taken-parts : (s : List ℕ) (x : Source) → x.bytes.now ≡ s → frame_of x ≡ in_capitals (parts_view s (Ok x.parts))
+unfolding text_of blocks_of parts_view in_capitals
+taken-parts s x d = rw (← d)
 
 module _ (y : Reading) where
   pub taken-room : (t : List ℕ) → length t ≤ TRANSLATED → (q : Result Parts Refusal) → numbered q ≡ part_places true t (read_led (lead_of true t))
-      → {p : Parts} → q ≡ Ok p → y ≡ checked (in_capitals (parts_view t (Ok p))) → y ≡ checked (in_capitals (read_led (lead_of true t)))
-  taken-room t l q e f h = h ∙ ap (λ z. checked (in_capitals z)) (ap (parts_view t) (sym f) ∙ room-view t l q e)
+      → {p : Parts} → q ≡ Ok p → y ≡ in_capitals (parts_view t (Ok p)) → y ≡ in_capitals (read_led (lead_of true t))
+  taken-room t l q e f h = h ∙ ap in_capitals (ap (parts_view t) (sym f) ∙ room-view t l q e)
 
   pub taken-standard : (s : List ℕ) → is_printable s ≡ false → (q : Result Parts Refusal) → numbered q ≡ part_places false s (read s)
-      → {p : Parts} → q ≡ Ok p → y ≡ checked (in_capitals (parts_view s (Ok p))) → y ≡ checked (in_capitals (read s))
-  taken-standard s z q e f h = h ∙ ap (λ x. checked (in_capitals x)) (ap (parts_view s) (sym f) ∙ standard-view s z q e)
+      → {p : Parts} → q ≡ Ok p → y ≡ in_capitals (parts_view s (Ok p)) → y ≡ in_capitals (read s)
+  taken-standard s z q e f h = h ∙ ap in_capitals (ap (parts_view s) (sym f) ∙ standard-view s z q e)
 
   -- the bytes that a printable frame stands for
   pub taken-translated : (s : List ℕ) → is_printable s ≡ true → {room after : List ℕ} {answer : Result ℕ Refusal} → Translates s room answer after
-      → {n : ℕ} → answer ≡ Ok n → y ≡ checked (in_capitals (read_led (lead_of true (take n after)))) → y ≡ checked (in_capitals (read s))
-  taken-translated s p g e h = h ∙ ap (λ z. checked (in_capitals z)) (sym (translates-bytes p g e).reads)
+      → {n : ℕ} → answer ≡ Ok n → y ≡ in_capitals (read_led (lead_of true (take n after))) → y ≡ in_capitals (read s)
+  taken-translated s p g e h = h ∙ ap in_capitals (sym (translates-bytes p g e).reads)
 
 -- what was refused
 module _ {e : Refusal} where
   pub unread-room : (t : List ℕ) → length t ≤ TRANSLATED → (q : Result Parts Refusal) → numbered q ≡ part_places true t (read_led (lead_of true t))
-      → q ≡ Err e → refused (fault_number e) ≡ checked (in_capitals (read_led (lead_of true t)))
-  unfolding parts_view in_capitals checked
+      → q ≡ Err e → refused (fault_number e) ≡ in_capitals (read_led (lead_of true t))
+  unfolding parts_view in_capitals
   unread-room t l q d f = let z : refused (fault_number e) ≡ read_led (lead_of true t) = ap (parts_view t) (sym f) ∙ room-view t l q d in rw (← z)
 
   pub unread-standard : (s : List ℕ) → is_printable s ≡ false → (q : Result Parts Refusal) → numbered q ≡ part_places false s (read s)
-      → q ≡ Err e → refused (fault_number e) ≡ checked (in_capitals (read s))
-  unfolding parts_view in_capitals checked
+      → q ≡ Err e → refused (fault_number e) ≡ in_capitals (read s)
+  unfolding parts_view in_capitals
   unread-standard s p q d f = let z : refused (fault_number e) ≡ read s = ap (parts_view s) (sym f) ∙ standard-view s p q d in rw (← z)
 
   pub unread-translated : (s : List ℕ) → is_printable s ≡ true → {room after : List ℕ} {answer : Result ℕ Refusal} → Translates s room answer after
-      → answer ≡ Err e → refused (fault_number e) ≡ checked (in_capitals (read s))
-  unfolding in_capitals checked
+      → answer ≡ Err e → refused (fault_number e) ≡ in_capitals (read s)
+  unfolding in_capitals
   unread-translated s p g f = rw (translates-refused p g f)
 
-pub ruleset taking = (standard-parted, room-parted, taken-wrong, taken-good, taken-room, taken-standard, unread-room, unread-standard, rules)
+pub ruleset taking = (standard-parted, room-parted, taken-parts, taken-room, taken-standard, unread-room, unread-standard, rules)
 
 pub ruleset printables = (room-short, room-fits, taken-translated, unread-translated, rules)
+
+-- ---- 17 for a wrong sum
+
+module _ (x : Source) where
+  pub sums-wrong : not x.parts.seen.right ≡ true → refused 17 ≡ checked (frame_of x)
+  unfolding blocks_of checked
+  sums-wrong f = rw (sym (seen-right x.parted) ∙ not-true x.parts.seen.right f)
+
+  pub sums-right : not x.parts.seen.right ≡ false → frame_of x ≡ checked (frame_of x)
+  unfolding blocks_of checked
+  sums-right f = rw (sym (seen-right x.parted) ∙ not-false x.parts.seen.right f)
+
+-- what was refused stays as it was
+pub sums-none : {y : Reading} {n : ℕ} → refused n ≡ y → refused n ≡ checked y
+unfolding checked
+sums-none e = rw (← e)
+
+pub ruleset sums = (sums-wrong, sums-right, sums-none, rules)
 
 -- ---- what is made of it: a call goes on with a frame that was taken, and hands on what was refused
 

@@ -19,7 +19,7 @@ ghost use Rattle.writing.specs.InnerFrames.{text_of, blocks_of, frame_of};
 use crate::blocks::{escapes_of, put_blocks, put_headed};
 use crate::output::fit;
 use crate::source::Source;
-use crate::taking::{take_printable, take_standard};
+use crate::taking::{see_printable, see_standard, take_printable, take_standard};
 use crate::{Refusal, Written};
 use forms::{Form, put_eot};
 use header::addressing::starts;
@@ -80,6 +80,17 @@ fn join_right(form: Form, first: &Source, second: &Source, out: &mut [u8]) -> Re
     join_calm(form, first, second, out)
 }
 
+// The first frame is read and its sums are right, the second is read: the second's 17, and then the rest.
+fn join_seen(form: Form, first: &Source, second: &Source, out: &mut [u8]) -> Result<usize, Refusal>
+    ensures { output (told result) out.new ≡ put_joined (form_number form) (frame_of first.now) (checked (frame_of second.now)) out.old }
+{
+    let right = second.parts.seen.right;
+    if !right {
+        return Err(Refusal::WrongSum);
+    }
+    join_right(form, first, second, out)
+}
+
 // A printable second frame, whose bytes need a room: this stands by itself, so that a standard frame needs none.
 fn join_printable(
     form: Form,
@@ -91,7 +102,7 @@ fn join_printable(
     ensures { output (told result) out.new ≡ put_joined (form_number form) (frame_of first.now) (checked (in_capitals (read second.now))) out.old }
 {
     let mut room = [0u8; 8192];
-    join_right(form, first, &take_printable(second, &mut room)?, out)
+    join_seen(form, first, &see_printable(second, &mut room)?, out)
 }
 
 // The first frame is read and its sums are right: the second's numbers.
@@ -101,7 +112,7 @@ fn join_second(form: Form, first: &Source, second: &[u8], out: &mut [u8]) -> Res
     if is_printable(second) {
         return join_printable(form, first, second, out);
     }
-    join_right(form, first, &take_standard(second)?, out)
+    join_seen(form, first, &see_standard(second)?, out)
 }
 
 // A printable first frame, with a room of its own.

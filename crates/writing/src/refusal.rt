@@ -31,7 +31,7 @@ pub enum Refusal {
 
 impl Refusal {
     // The document's number.
-    fn number(self) -> u8
+    pub fn number(self) -> u8
         ensures { result ≡ number_of self }
     {
         match self {

@@ -1,5 +1,5 @@
 use Rattle.writing.proofs.JoiningLaws.{seconds}
 use Rattle.writing.proofs.joining.join_second.Goals as goal
 
-pub returns-in_err-take_standard : goal.returns-in_err-take_standard
-returns-in_err-take_standard c = search seconds
+pub returns-in_err-see_standard : goal.returns-in_err-see_standard
+returns-in_err-see_standard c = search seconds
