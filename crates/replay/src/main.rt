@@ -51,12 +51,6 @@ impl<R: Read> Cases<R> {
         Ok(s)
     }
 
-    fn date(&mut self) -> io::Result<Date> {
-        let year = self.long_number()?;
-        let [month, day]: [u8; 2] = self.array()?;
-        Ok(Date { year, month, day })
-    }
-
     // The settings string: a byte for each of the ten settings, two for the unused amount and for each label's place, one for the
     // offset and one for the register. One of another length is InvalidData.
     fn settings(&mut self, room: &mut Room) -> io::Result<Settings> {
@@ -65,6 +59,15 @@ impl<R: Read> Cases<R> {
             Ok(set) => Ok(settings(set)),
             Err(_) => Err(io::Error::from(ErrorKind::InvalidData)),
         }
+    }
+}
+
+// A call of few numbers has them read in one piece: in pieces of their own they would take a good part of its case.
+fn date(year: [u8; 2], month: u8, day: u8) -> Date {
+    Date {
+        year: u16::from_be_bytes(year),
+        month,
+        day,
     }
 }
 
@@ -210,30 +213,30 @@ fn join<R: Read, W: Write>(cases: &mut Cases<R>, rooms: &mut Rooms, to: &mut W) 
 }
 
 fn renewal_date<R: Read, W: Write>(cases: &mut Cases<R>, to: &mut W) -> io::Result<()> {
-    let first = cases.date()?;
-    let months = cases.long_number()?.cast_signed();
+    let [a, b, month, day, high, low]: [u8; 6] = cases.array()?;
+    let first = date([a, b], month, day);
+    let months = i16::from_be_bytes([high, low]);
     let r = renewal::renewing::renewal_date(first, months);
     let date = r.date;
     writeln!(to, "{} {} {} {}", r.number, date.year, date.month, date.day)
 }
 
 fn weekday<R: Read, W: Write>(cases: &mut Cases<R>, to: &mut W) -> io::Result<()> {
-    let date = cases.date()?;
-    let r = renewal::days::weekday(date);
+    let [a, b, month, day]: [u8; 4] = cases.array()?;
+    let r = renewal::days::weekday(date([a, b], month, day));
     writeln!(to, "{} {}", r.number, r.weekday)
 }
 
 fn days_between<R: Read, W: Write>(cases: &mut Cases<R>, to: &mut W) -> io::Result<()> {
-    let first = cases.date()?;
-    let second = cases.date()?;
-    let r = renewal::days::days_between(first, second);
+    let [a, b, month, day, c, d, other, last]: [u8; 8] = cases.array()?;
+    let r = renewal::days::days_between(date([a, b], month, day), date([c, d], other, last));
     writeln!(to, "{} {}", r.number, r.days)
 }
 
 fn add_offset<R: Read, W: Write>(cases: &mut Cases<R>, to: &mut W) -> io::Result<()> {
-    let offset = cases.number()?.cast_signed();
-    let reading = cases.long_number()?.cast_signed();
-    let r = temperature::correcting::add_offset(offset, reading);
+    let [offset, high, low]: [u8; 3] = cases.array()?;
+    let reading = i16::from_be_bytes([high, low]);
+    let r = temperature::correcting::add_offset(offset.cast_signed(), reading);
     writeln!(to, "{} {}", r.number, r.sum)
 }
 
